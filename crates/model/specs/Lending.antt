@@ -1,0 +1,96 @@
+-- Document 01's "Rules of lending", but for the arena's bytes: what a size needs, the set of live blocks, first fit by address, and used and peak.
+-- Assumes nothing.
+use Prim.Native.Nat.{ℕ, _+_, _-_, _*_, _/_, _%_, max}
+use mathlib.Core.Bool.{Bool, not}
+use mathlib.Core.List.{List, [], _∷_}
+use mathlib.Core.Option.{Option, none, some}
+use lib.Dec.{leb, ltb, eqb}
+use Rattle.model.specs.Choose.{choose, both, either, every, only, firstOf, total, leastFrom, given}
+use Rattle.model.specs.Quantities.{Config}
+use Rattle.model.specs.declared.Segment.{Segment}
+
+-- A size of n bytes needs n / 16 granules, rounded up.
+abbrev pub granulesFor : ℕ → ℕ
+granulesFor n = (n + 15) / 16
+
+-- A block of n bytes is so many granules long in this heap.
+abbrev pub needed : Config → ℕ → ℕ
+needed c n = granulesFor n
+
+-- A block counts the granules of its bytes requested against its owner's granule quota.
+abbrev pub charge : Config → Segment → ℕ
+charge c b = needed c (b .requested)
+
+-- A heap's state is the set of its live blocks, kept in address order, and its peak in granules.
+pub record State : Type 0 where
+  pub blocks : List Segment
+  pub peak : ℕ
+
+-- At making no block is live, and none ever was.
+abbrev pub fresh : State
+fresh = record { blocks = []; peak = 0 }
+
+-- None of the granules s to s + g - 1 is in the block: the run ends before the block, or begins after it.
+abbrev pub clearOf : ℕ → ℕ → Segment → Bool
+clearOf s g b = either (leb (s + g) (b .start)) (leb (b .start + b .length) s)
+
+-- There is room for g granules at s: s + g is at most the arena's granules, and none of them is in a live block.
+abbrev pub room : Config → List Segment → ℕ → ℕ → Bool
+room c bs g s = both (leb (s + g) (c .granules)) (every (clearOf s g) bs)
+
+-- A start s serves g granules on a boundary of a bytes: 16 s is a multiple of a, and there is room.
+abbrev pub serves : Config → List Segment → ℕ → ℕ → ℕ → Bool
+serves c bs g a s = both (eqb ((16 * s) % a) 0) (room c bs g s)
+
+-- The lowest start that serves: each granule of the arena is tried in turn, and the search stops at the first that serves.
+abbrev pub lowestStart : Config → List Segment → ℕ → ℕ → Option ℕ
+lowestStart c bs g a = leastFrom (serves c bs g a) 0 (c .granules)
+
+-- The block of owner o and n bytes at start s.
+abbrev pub block : Config → ℕ → ℕ → ℕ → Segment
+block c o n s = record { start = s; length = needed c n; owner = o; requested = n }
+
+-- The block that an allocation gets: the one at the lowest start, if there is one.
+abbrev pub fit : Config → List Segment → ℕ → ℕ → ℕ → Option Segment
+fit c bs o n a = given (lowestStart c bs (needed c n) a) none (λ s. some (block c o n s))
+
+-- The blocks with one more, at its place in address order.
+abbrev pub insert : Segment → List Segment → List Segment
+insert b [] = b ∷ []
+insert b (x ∷ xs) = choose (ltb (b .start) (x .start)) (b ∷ x ∷ xs) (x ∷ insert b xs)
+
+-- The blocks with one more, if there is one.
+abbrev pub put : Option Segment → List Segment → List Segment
+put f bs = given f bs (λ b. insert b bs)
+
+-- A block's first byte is at 16 times its start.
+abbrev pub offset : Segment → ℕ
+offset b = 16 * b .start
+
+-- The live block whose first byte is x, if there is one.
+abbrev pub blockAt : ℕ → List Segment → Option Segment
+blockAt x bs = firstOf (λ (b : Segment). eqb (offset b) x) bs
+
+-- The blocks with the one whose first byte is x taken out of the set.
+abbrev pub without : ℕ → List Segment → List Segment
+without x bs = only (λ (b : Segment). not (eqb (offset b) x)) bs
+
+-- A block holds its granules times 16 bytes.
+abbrev pub bytes : Segment → ℕ
+bytes b = 16 * b .length
+
+-- The blocks of one owner.
+abbrev pub ownedBy : ℕ → List Segment → List Segment
+ownedBy o bs = only (λ (b : Segment). eqb (b .owner) o) bs
+
+-- The granules that the blocks hold; of all live blocks these are the granules used.
+abbrev pub granulesOf : List Segment → ℕ
+granulesOf bs = total (λ (b : Segment). b .length) bs
+
+-- Free is the arena minus used.
+abbrev pub freeGranules : Config → List Segment → ℕ
+freeGranules c bs = c .granules - granulesOf bs
+
+-- The state with other live blocks: the peak is the largest that used has been, so it is raised to what they hold and never lowered.
+abbrev pub changed : State → List Segment → State
+changed h bs = record { blocks = bs; peak = max (h .peak) (granulesOf bs) }

@@ -1,0 +1,76 @@
+-- Document 01's orders of refusal, each as one list to lay beside its line, and its "proper" and "within limits".
+-- Assumes nothing.
+use Prim.Native.Nat.{ℕ}
+use mathlib.Core.Bool.{Bool}
+use mathlib.Core.List.{List, [], _∷_}
+use mathlib.Core.Option.{Option, none, some}
+use Rattle.model.specs.Choose.{choose, given}
+use Rattle.model.specs.Quantities.{Config}
+use Rattle.model.specs.Lending.{State, fit}
+use Rattle.model.specs.Reasons.{Reason, invalidHeap, badOwner, zeroSize, badAlignment, blockQuota, granuleQuota, noPlace, tableFull, notABlock, otherOwner, otherArena, badArena, badTable, badQuota}
+use Rattle.model.specs.declared.Plan.{Plan}
+use Rattle.model.specs.declared.Refusal.{Refusal}
+use Rattle.model.specs.declared.InitRefusal.{InitRefusal}
+
+-- An order of refusal is a list of reasons.
+abbrev pub Order : Type 0 → Type 0
+Order R = List (Reason R)
+
+-- For every call on a heap: whether its record and table are a valid heap, what it was made with, and its state.
+module _ (isValid : Bool) (c : Config) (h : State) where
+  -- For an allocation: 1, 2, 3, 4, 5, 6, 7, 8.
+  unfoldable pub allocOrder : ℕ → ℕ → ℕ → Order Refusal
+  allocOrder o n a =
+      invalidHeap isValid
+      ∷ badOwner o
+      ∷ zeroSize n
+      ∷ badAlignment a
+      ∷ blockQuota c (h .blocks) o
+      ∷ granuleQuota c (h .blocks) o n
+      ∷ noPlace (fit c (h .blocks) o n a)
+      ∷ tableFull c (h .blocks) (fit c (h .blocks) o n a)
+      ∷ []
+
+  -- For a free: 1, 11, 2, 9, 10.
+  unfoldable pub freeOrder : List ℕ → ℕ → ℕ → Order Refusal
+  freeOrder arena o x =
+      invalidHeap isValid
+      ∷ otherArena c arena
+      ∷ badOwner o
+      ∷ notABlock (h .blocks) x
+      ∷ otherOwner (h .blocks) o x
+      ∷ []
+
+-- For making: 11, 12, 13.
+unfoldable pub initOrder : List ℕ → List ℕ → Plan → Order InitRefusal
+initOrder arena words p = badArena arena ∷ badTable words ∷ badQuota p ∷ []
+
+-- For a block's size: 1, 2, 9, 10.
+unfoldable pub blockSizeOrder : Bool → State → ℕ → ℕ → Order Refusal
+blockSizeOrder isValid h o x =
+    invalidHeap isValid ∷ badOwner o ∷ notABlock (h .blocks) x ∷ otherOwner (h .blocks) o x ∷ []
+
+-- For the totals: 1.
+unfoldable pub totalsOrder : Bool → Order Refusal
+totalsOrder isValid = invalidHeap isValid ∷ []
+
+-- For one owner's blocks and bytes: 1, 2.
+unfoldable pub holdingOrder : Bool → ℕ → Order Refusal
+holdingOrder isValid o = invalidHeap isValid ∷ badOwner o ∷ []
+
+-- The first reason that applies is given, and none is given otherwise.
+abbrev pub firstReason : {R : Type 0} → Order R → Option R
+firstReason [] = none
+firstReason (r ∷ rs) = choose (r .0) (some (r .1)) (firstReason rs)
+
+-- What a call comes to where no reason applies, else what is made of the first that does.
+abbrev pub unless : {R A : Type 0} → Order R → A → (R → A) → A
+unless order a refused = given (firstReason order) a refused
+
+-- An allocation is document 01's "proper" if none of these applies: 2, 3, 4. (11 is in the order of a later request only.)
+abbrev pub properOrder : ℕ → ℕ → ℕ → Order Refusal
+properOrder o n a = badOwner o ∷ zeroSize n ∷ badAlignment a ∷ []
+
+-- A proper allocation is "within limits" if neither of these applies: 5, 6.
+abbrev pub limitsOrder : Config → State → ℕ → ℕ → Order Refusal
+limitsOrder c h o n = blockQuota c (h .blocks) o ∷ granuleQuota c (h .blocks) o n ∷ []

@@ -1,0 +1,79 @@
+-- Document 01's "Numbers that say no", 1 to 13: when each applies. (14 is the script program's.)
+-- Assumes nothing.
+use Prim.Native.Nat.{ℕ, _+_}
+use mathlib.Core.Bool.{Bool, false, not}
+use mathlib.Core.List.{List}
+use mathlib.Core.Option.{Option}
+use lib.Dec.{leb, ltb, eqb}
+use lib.ListN.{length}
+use Rattle.model.specs.Choose.{total, given, isNone}
+use Rattle.model.specs.Quantities.{isArena, isTable, isOwner, quotasInRange, isAlignment, Config, quota}
+use Rattle.model.specs.Lending.{needed, charge, put, blockAt, ownedBy}
+use Rattle.model.specs.Arena.{isWhole}
+use Rattle.model.specs.SegmentMap.{rowsOf}
+use Rattle.model.specs.declared.Segment.{Segment}
+use Rattle.model.specs.declared.Plan.{Plan}
+use Rattle.model.specs.declared.Refusal.{Refusal}
+use Rattle.model.specs.declared.Refusal.the-variants as refusal
+use Rattle.model.specs.declared.InitRefusal.{InitRefusal}
+use Rattle.model.specs.declared.InitRefusal.the-variants as initRefusal
+
+-- A reason is a refusal, with whether it applies.
+abbrev pub Reason : Type 0 → Type 0
+Reason R = Bool × R
+
+-- 1: the record and the table are not a valid heap.
+abbrev pub invalidHeap : Bool → Reason Refusal
+invalidHeap isValid = (not isValid, refusal.InvalidHeap)
+
+-- 2: the owner is not 1 to 8.
+abbrev pub badOwner : ℕ → Reason Refusal
+badOwner o = (not (isOwner o), refusal.BadOwner)
+
+-- 3: the size is 0.
+abbrev pub zeroSize : ℕ → Reason Refusal
+zeroSize n = (eqb n 0, refusal.ZeroSize)
+
+-- 4: the alignment is not a power of two from 16 to 4,096.
+abbrev pub badAlignment : ℕ → Reason Refusal
+badAlignment a = (not (isAlignment a), refusal.BadAlignment)
+
+-- 5: the owner already has as many live blocks as its block quota.
+abbrev pub blockQuota : Config → List Segment → ℕ → Reason Refusal
+blockQuota c bs o = (leb (quota (c .blockQuotas) o) (length (ownedBy o bs)), refusal.BlockQuota)
+
+-- 6: the owner's live granules plus those of n bytes exceed its granule quota.
+abbrev pub granuleQuota : Config → List Segment → ℕ → ℕ → Reason Refusal
+granuleQuota c bs o n = (ltb (quota (c .granuleQuotas) o) (total (charge c) (ownedBy o bs) + needed c n), refusal.GranuleQuota)
+
+-- 7: no start serves, so there is no block to place.
+abbrev pub noPlace : Option Segment → Reason Refusal
+noPlace f = (isNone f, refusal.NoPlace)
+
+-- 8: with the block placed, the rows in use exceed the table's.
+abbrev pub tableFull : Config → List Segment → Option Segment → Reason Refusal
+tableFull c bs f = (ltb (c .capacity) (rowsOf c (put f bs)), refusal.TableFull)
+
+-- 9: the offset is not the first byte of a live block.
+abbrev pub notABlock : List Segment → ℕ → Reason Refusal
+notABlock bs x = (isNone (blockAt x bs), refusal.NotABlock)
+
+-- 10: it is, but the block has another owner.
+abbrev pub otherOwner : List Segment → ℕ → ℕ → Reason Refusal
+otherOwner bs o x = (given (blockAt x bs) false (λ b. not (eqb (b .owner) o)), refusal.OtherOwner)
+
+-- 11 of a call on a heap: the arena's length is not the one recorded.
+abbrev pub otherArena : Config → List ℕ → Reason Refusal
+otherArena c arena = (not (isWhole c arena), refusal.ArenaLength)
+
+-- 11 of a making: the arena's length is not allowed.
+abbrev pub badArena : List ℕ → Reason InitRefusal
+badArena arena = (not (isArena (length arena)), initRefusal.ArenaLength)
+
+-- 12: the table's length is not 4 to 2,048 words in steps of 4.
+abbrev pub badTable : List ℕ → Reason InitRefusal
+badTable words = (not (isTable (length words)), initRefusal.TableLength)
+
+-- 13: a quota is out of range.
+abbrev pub badQuota : Plan → Reason InitRefusal
+badQuota p = (not (quotasInRange (p .«granule_quotas») (p .«block_quotas»)), initRefusal.BadQuota)

@@ -1,0 +1,101 @@
+-- What each call answers and leaves, by the rules of lending and the orders of refusal: of a set of live blocks, apart from how it is written down.
+-- Assumes nothing.
+use Prim.Native.Nat.{ℕ, _*_, _/_}
+use mathlib.Core.Bool.{Bool}
+use mathlib.Core.List.{List}
+use lib.ListN.{length, replicate}
+use Rattle.model.specs.Choose.{given}
+use Rattle.model.specs.Quantities.{Config}
+use Rattle.model.specs.Lending.{State, fit, put, offset, blockAt, without, bytes, ownedBy, granulesOf, freeGranules, changed}
+use Rattle.model.specs.Arena.{zeroed}
+use Rattle.model.specs.SegmentMap.{longestFree}
+use Rattle.model.specs.Orders.{unless, allocOrder, freeOrder, initOrder, blockSizeOrder, totalsOrder, holdingOrder}
+use Rattle.model.specs.declared.Plan.{Plan}
+use Rattle.model.specs.declared.Made.{Made}
+use Rattle.model.specs.declared.Made.the-variants as made
+use Rattle.model.specs.declared.Placed.{Placed}
+use Rattle.model.specs.declared.Placed.the-variants as placed
+use Rattle.model.specs.declared.Freed.{Freed}
+use Rattle.model.specs.declared.Freed.the-variants as freed
+use Rattle.model.specs.declared.BlockSize.{BlockSize}
+use Rattle.model.specs.declared.BlockSize.the-variants as size
+use Rattle.model.specs.declared.Totals.{Totals}
+use Rattle.model.specs.declared.Totals.the-variants as totals
+use Rattle.model.specs.declared.Holding.{Holding}
+use Rattle.model.specs.declared.Holding.the-variants as holding
+
+-- Making, handed an arena, a table's words and a plan.
+module _ (arena words : List ℕ) (p : Plan) where
+  -- It answers that it is done.
+  abbrev pub init : Made
+  init = unless (initOrder arena words p) made.Done made.Refused
+
+  -- The heap is made with the arena's granules, the table's rows and the plan's quotas.
+  abbrev pub initConfig : Config
+  initConfig =
+      record { granules = length arena / 16; capacity = length words / 4; granuleQuotas = p .«granule_quotas»; blockQuotas = p .«block_quotas» }
+
+  -- It zeroes the arena.
+  abbrev pub arenaAfterInit : List ℕ
+  arenaAfterInit = unless (initOrder arena words p) (replicate (length arena) 0) (λ r. arena)
+
+-- The state with the block of an allocation live.
+abbrev pub placing : Config → State → ℕ → ℕ → ℕ → State
+placing c h o n a = changed h (put (fit c (h .blocks) o n a) (h .blocks))
+
+-- The state with the block at x taken out.
+abbrev pub releasing : State → ℕ → State
+releasing h x = changed h (without x (h .blocks))
+
+-- The bytes that the block at x holds.
+abbrev pub bytesAt : State → ℕ → ℕ
+bytesAt h x = given (blockAt x (h .blocks)) 0 bytes
+
+-- Every other call: whether the record and the table that it is handed are a valid heap, what that was made with, and its state.
+module _ (isValid : Bool) (c : Config) (h : State) where
+  -- An allocation of n bytes on a boundary of a bytes answers the byte offset of its block.
+  abbrev pub alloc : ℕ → ℕ → ℕ → Placed
+  alloc o n a = unless (allocOrder isValid c h o n a) (placed.At (given (fit c (h .blocks) o n a) 0 offset)) placed.Refused
+
+  -- Its block is live then.
+  abbrev pub afterAlloc : ℕ → ℕ → ℕ → State
+  afterAlloc o n a = unless (allocOrder isValid c h o n a) (placing c h o n a) (λ r. h)
+
+  -- It is granted the granules of its block.
+  abbrev pub grantedAlloc : ℕ → ℕ → ℕ → ℕ
+  grantedAlloc o n a = unless (allocOrder isValid c h o n a) (given (fit c (h .blocks) o n a) 0 (λ b. b .length)) (λ r. 0)
+
+  -- A free answers the bytes that its block held.
+  abbrev pub free : List ℕ → ℕ → ℕ → Freed
+  free arena o x = unless (freeOrder isValid c h arena o x) (freed.Bytes (bytesAt h x)) freed.Refused
+
+  -- Its block is live no more.
+  abbrev pub afterFree : List ℕ → ℕ → ℕ → State
+  afterFree arena o x = unless (freeOrder isValid c h arena o x) (releasing h x) (λ r. h)
+
+  -- It returns the granules of its block.
+  abbrev pub returnedFree : List ℕ → ℕ → ℕ → ℕ
+  returnedFree arena o x = unless (freeOrder isValid c h arena o x) (given (blockAt x (h .blocks)) 0 (λ b. b .length)) (λ r. 0)
+
+  -- All bytes of its block are zero then, and every other byte of the arena stays.
+  abbrev pub arenaAfterFree : List ℕ → ℕ → ℕ → List ℕ
+  arenaAfterFree arena o x = unless (freeOrder isValid c h arena o x) (zeroed x (bytesAt h x) arena) (λ r. arena)
+
+  -- A block's size is the bytes requested and the bytes held.
+  abbrev pub blockSize : ℕ → ℕ → BlockSize
+  blockSize o x =
+      unless (blockSizeOrder isValid h o x)
+      (size.Bytes (given (blockAt x (h .blocks)) 0 (λ b. b .requested)) (bytesAt h x)) size.Refused
+
+  -- The totals are used, free, peak and the longest free run, all in bytes.
+  abbrev pub totalsOf : Totals
+  totalsOf =
+      unless (totalsOrder isValid)
+      (totals.Bytes (16 * granulesOf (h .blocks)) (16 * freeGranules c (h .blocks)) (16 * h .peak) (16 * longestFree c (h .blocks)))
+      totals.Refused
+
+  -- What one owner holds is its blocks, and the bytes that they hold.
+  abbrev pub holdingOf : ℕ → Holding
+  holdingOf o =
+      unless (holdingOrder isValid o)
+      (holding.Of (length (ownedBy o (h .blocks))) (16 * granulesOf (ownedBy o (h .blocks)))) holding.Refused
