@@ -6,8 +6,8 @@ use mathlib.Core.List.{List, [], _∷_, _++_}
 use mathlib.Core.Option.{none, some}
 use Prim.Native.Nat.{ℕ}
 use native.Mathlib.Omega.{arith}
-use Rattle.model.specs.Orders.{Order, firstReason}
-use Rattle.model.proofs.Choosing.{split}
+use Rattle.model.specs.Orders.{Order, firstReason, unless}
+use Rattle.model.proofs.Choosing.{split, splitOption}
 
 -- no reason of the order applies
 abbrev pub NoReason : {R : Type 0} → Order R → Type 0
@@ -38,3 +38,8 @@ no-second (r ∷ rs) ts n = no-second rs ts (n .1)
 pub no-both : {R : Type 0} (rs ts : Order R) → NoReason rs → NoReason ts → NoReason (rs ++ ts)
 no-both [] ts n m = m
 no-both (r ∷ rs) ts n m = (n .0, no-both rs ts (n .1) m)
+
+-- a call whose answer is a refusal found a reason
+pub refused-some : {R A : Type 0} (order : Order R) (a : A) (refused : R → A) (r : R) → (a ≡ refused r → ⊥)
+    → unless order a refused ≡ refused r → (t : R) × (firstReason order ≡ some t)
+refused-some order a refused r never e = splitOption (firstReason order) (λ q. absurd (never (rw q at e))) (λ t q. (t, q))

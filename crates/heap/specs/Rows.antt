@@ -1,0 +1,30 @@
+-- The rows of a table as words: written, and read back.
+-- Assumes nothing.
+use Prim.Native.Nat.{ℕ, zero, suc, _+_, _-_, _*_}
+use mathlib.Core.List.{List, [], _∷_, _++_}
+use lib.ListN.{length, replicate, getD, drop}
+use Rattle.model.specs.Choose.{only}
+use Rattle.model.specs.SegmentMap.{isLive}
+use Rattle.model.specs.declared.Segment.{Segment}
+
+-- A row is four words: start granule, length in granules, owner (0 means free), bytes requested (0 if free).
+abbrev pub wordsOf : List Segment → List ℕ
+wordsOf [] = []
+wordsOf (x ∷ xs) = x .start ∷ x .length ∷ x .owner ∷ x .requested ∷ wordsOf xs
+
+-- A table has the rows in use from row 0 on, and the rows after those are all zero.
+abbrev pub tableOf : ℕ → List Segment → List ℕ
+tableOf capacity xs = wordsOf xs ++ replicate (4 * (capacity - length xs)) 0
+
+-- The segment in row i.
+abbrev pub segmentAt : List ℕ → ℕ → Segment
+segmentAt ws i = record { start = getD ws (4 * i) 0; length = getD ws (4 * i + 1) 0; owner = getD ws (4 * i + 2) 0; requested = getD ws (4 * i + 3) 0 }
+
+-- The segments in the first n rows.
+abbrev pub segmentsIn : ℕ → List ℕ → List Segment
+segmentsIn zero ws = []
+segmentsIn (suc n) ws = segmentAt ws 0 ∷ segmentsIn n (drop 4 ws)
+
+-- The live blocks in the first n rows.
+abbrev pub blocksIn : ℕ → List ℕ → List Segment
+blocksIn n ws = only isLive (segmentsIn n ws)
