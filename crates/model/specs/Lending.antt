@@ -1,4 +1,4 @@
--- Document 01's "Rules of lending", but for the arena's bytes: what a size needs, the set of live blocks, first fit by address, and used and peak.
+-- Document 01's "Rules of lending", but for the arena's bytes: what a size needs, the set of live blocks, first fit by address, used, free and peak; and what an owner has of them.
 -- Assumes nothing.
 use Prim.Native.Nat.{ℕ, _+_, _-_, _*_, _/_, _%_, max}
 use mathlib.Core.Bool.{Bool, not}
@@ -16,10 +16,6 @@ granulesFor n = (n + 15) / 16
 -- A block of n bytes is so many granules long in this heap.
 abbrev pub needed : Config → ℕ → ℕ
 needed c n = granulesFor n
-
--- A block counts the granules of its bytes requested against its owner's granule quota.
-abbrev pub charge : Config → Segment → ℕ
-charge c b = needed c (b .requested)
 
 -- A heap's state is the set of its live blocks, kept in address order, and its peak in granules.
 pub record State : Type 0 where
@@ -79,10 +75,6 @@ without x bs = only (λ (b : Segment). not (eqb (offset b) x)) bs
 abbrev pub bytes : Segment → ℕ
 bytes b = 16 * b .length
 
--- The blocks of one owner.
-abbrev pub ownedBy : ℕ → List Segment → List Segment
-ownedBy o bs = only (λ (b : Segment). eqb (b .owner) o) bs
-
 -- The granules that the blocks hold; of all live blocks these are the granules used.
 abbrev pub granulesOf : List Segment → ℕ
 granulesOf bs = total (λ (b : Segment). b .length) bs
@@ -94,3 +86,11 @@ freeGranules c bs = c .granules - granulesOf bs
 -- The state with other live blocks: the peak is the largest that used has been, so it is raised to what they hold and never lowered.
 abbrev pub changed : State → List Segment → State
 changed h bs = record { blocks = bs; peak = max (h .peak) (granulesOf bs) }
+
+-- The blocks of one owner.
+abbrev pub ownedBy : ℕ → List Segment → List Segment
+ownedBy o bs = only (λ (b : Segment). eqb (b .owner) o) bs
+
+-- A block counts the granules of its bytes requested against its owner's granule quota.
+abbrev pub charge : Config → Segment → ℕ
+charge c b = needed c (b .requested)
