@@ -1,9 +1,9 @@
 -- No two live blocks share a byte of the arena.
 -- Assumes nothing.
 use mathlib.Core.Path.{_≡_, _∙_, sym}
-use mathlib.Core.Bool.{Bool, true, false}
+use mathlib.Core.Bool.{Bool, true}
 use mathlib.Core.List.{List, [], _∷_, List·Memᴰ, List·Memᴰ·head, List·Memᴰ·tail, List·Memᴰ·not-nil, List·Memᴰ·eq-of-singleton}
-use Prim.Native.Nat.{ℕ, _+_, _*_, _≤_, _<_}
+use Prim.Native.Nat.{ℕ, _+_, _≤_}
 use native.Mathlib.Omega.{arith}
 use lib.Dec.{leb, ltb}
 use lib.ListN.{length}
@@ -11,8 +11,8 @@ use borrow.Author.Tests.{leb-true}
 use Rattle.model.specs.Choose.{both, only}
 use Rattle.model.specs.Quantities.{Config}
 use Rattle.model.specs.Lending.{offset, bytes}
-use Rattle.model.proofs.Choosing.{split, tests, parts, both-left, both-right, clash}
-use Rattle.model.proofs.Ordered.{Ordered, long, none-from}
+use Rattle.model.proofs.Choosing.{split, tests, parts, both-left}
+use Rattle.model.proofs.Ordered.{Ordered, none-from}
 use Rattle.model.specs.declared.Segment.{Segment}
 
 -- Byte x of the arena lies in the block.

@@ -4,11 +4,10 @@ use mathlib.Core.Path.{_≡_}
 use mathlib.Core.Bool.{true}
 use Prim.Native.Nat.{ℕ, _*_, _%_, _≤_}
 use native.Mathlib.Omega.{arith}
-use lib.Dec.{leb, eqb}
+use lib.Dec.{leb}
 use lib.ListN.{length}
 use borrow.Author.Tests.{leb-true, le-leb, eqb-true}
-use Rattle.model.specs.Choose.{every}
-use Rattle.model.specs.Quantities.{within, isArena, isTable, areQuotas, quotasInRange, Config, inRange}
+use Rattle.model.specs.Quantities.{within, isArena, isTable, Config, inRange}
 use Rattle.model.proofs.Choosing.{both-left, both-right, parts}
 
 -- the bounds of a range
