@@ -1,20 +1,53 @@
--- How many rows a placed block adds: one for a gap before it, and one for a rest after it.
+-- How many rows a map has: at most two for each block and one more, no more without a block, and with one placed one for a gap before it and one for a rest after it.
 -- Assumes nothing.
 use mathlib.Core.Path.{_≡_}
 use mathlib.Core.Bool.{Bool, true}
 use mathlib.Core.List.{List, [], _∷_}
-use Prim.Native.Nat.{ℕ, _+_, _-_, _≤_}
+use Prim.Native.Nat.{ℕ, _+_, _*_, _-_, _≤_}
 use native.Mathlib.Omega.{arith}
 use lib.Dec.{ltb}
 use lib.ListN.{length, length-append}
 use borrow.Author.Tests.{lt-ltb, lt-leb}
-use Rattle.model.specs.Choose.{choose, both, every}
+use Rattle.model.specs.Choose.{choose, both, every, only}
 use Rattle.model.specs.Quantities.{Config}
 use Rattle.model.specs.Lending.{clearOf, insert}
 use Rattle.model.specs.SegmentMap.{gap, mapFrom}
 use Rattle.model.proofs.Choosing.{split, tests, every-head, every-tail}
 use Rattle.model.proofs.Ordered.{Ordered, ends, long, clear-before, clear-after, after-clear, clear-all}
 use Rattle.model.specs.declared.Segment.{Segment}
+
+-- 1 where the test holds, else 0.
+abbrev pub one : Bool → ℕ
+one t = choose t 1 0
+
+gap-length : (s e : ℕ) → length (gap s e) ≡ one (ltb s e)
+gap-length s e = split (ltb s e) (λ q. rw q) (λ q. rw q)
+
+pub gap-short : (s e : ℕ) → length (gap s e) ≤ 1
+gap-short s e = rw (gap-length s e) (split (ltb s e) (λ q. rw q (omega arith)) (λ q. rw q (omega arith)))
+
+pub rows-most : (e s : ℕ) (bs : List Segment) → length (mapFrom e s bs) ≤ 2 * length bs + 1
+rows-most e s [] = omega (arith, gap-short s e)
+rows-most e s (b ∷ bs) =
+    rw (length-append (gap s (b .start)) (b ∷ mapFrom e (b .start + b .length) bs))
+    (omega (arith, gap-short s (b .start), rows-most e (b .start + b .length) bs))
+
+-- from an earlier start there is at most one row more
+rows-earlier : (e s t : ℕ) (bs : List Segment) → length (mapFrom e t bs) ≤ 1 + length (mapFrom e s bs)
+rows-earlier e s t [] = omega (arith, gap-short t e)
+rows-earlier e s t (b ∷ bs) =
+    rw (length-append (gap s (b .start)) (b ∷ mapFrom e (b .start + b .length) bs), length-append (gap t (b .start)) (b ∷ mapFrom e (b .start + b .length) bs))
+    (omega (arith, gap-short t (b .start)))
+
+-- to take a block away adds no row
+pub rows-only : (p : Segment → Bool) (e s : ℕ) (bs : List Segment) → length (mapFrom e s (only p bs)) ≤ length (mapFrom e s bs)
+rows-only p e s [] = omega arith
+rows-only p e s (b ∷ bs) =
+    let r : length (mapFrom e (b .start + b .length) (only p bs)) ≤ length (mapFrom e (b .start + b .length) bs) = rows-only p e (b .start + b .length) bs in
+    rw (length-append (gap s (b .start)) (b ∷ mapFrom e (b .start + b .length) bs))
+    (split (p b)
+    (λ q. rw (q, length-append (gap s (b .start)) (b ∷ mapFrom e (b .start + b .length) (only p bs))) (omega arith))
+    (λ q. rw q (omega (arith, rows-earlier e (b .start + b .length) s (only p bs)))))
 
 -- Granule x is in the arena, and in no live block.
 abbrev pub isFreeGranule : Config → List Segment → ℕ → Bool
@@ -27,13 +60,6 @@ gapBefore c bs b = both (ltb 0 (b .start)) (isFreeGranule c bs (b .start - 1))
 -- There is a rest after it: the granule after it is free.
 abbrev pub restAfter : Config → List Segment → Segment → Bool
 restAfter c bs b = isFreeGranule c bs (b .start + b .length)
-
--- 1 where the test holds, else 0.
-abbrev pub one : Bool → ℕ
-one t = choose t 1 0
-
-gap-length : (s e : ℕ) → length (gap s e) ≡ one (ltb s e)
-gap-length s e = split (ltb s e) (λ q. rw q) (λ q. rw q)
 
 module _ (c : Config) (b : Segment) (hb : 1 ≤ b .length) (k : b .start + b .length ≤ c .granules) where
   pub rows-from : (s : ℕ) (bs : List Segment) → s ≤ b .start → every (clearOf (b .start) (b .length)) bs ≡ true → Ordered c s bs
