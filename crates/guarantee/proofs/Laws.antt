@@ -10,10 +10,10 @@ use Rattle.model.specs.Rules.{initConfig}
 use Rattle.model.proofs.Ordered.{Ordered}
 use Rattle.model.proofs.Disjoint as disjoint
 use Rattle.model.proofs.Disjoint.{hasByte}
-use Rattle.heap.specs.Calls.{init, afterInit}
+use Rattle.heap.specs.Calls.{init}
 use Rattle.heap.proofs.Init.{init-range, fresh-kept}
 use Rattle.guarantee.specs.Lists.{Call}
-use Rattle.guarantee.specs.Guarantee.{ruled}
+use Rattle.guarantee.specs.Guarantee.{stateAfter}
 use Rattle.guarantee.proofs.Guarantee.{kept-after}
 use Rattle.model.specs.declared.Segment.{Segment}
 use Rattle.model.specs.declared.Plan.{Plan}
@@ -22,14 +22,14 @@ use Rattle.model.specs.declared.Made.the-variants as made
 -- Of the blocks that are live after any list of calls from a making that is not refused.
 module _ (arena words : List ℕ) (p : Plan) (done : init arena words p ≡ made.Done) (ks : List Call) where
   abbrev live : List Segment
-  live = ruled (initConfig arena words p) (afterInit arena words p) ks .blocks
+  live = stateAfter (initConfig arena words p) ks .blocks
 
   ordered : Ordered (initConfig arena words p) 0 live
   ordered = kept-after (initConfig arena words p) _ ks (fresh-kept (initConfig arena words p) (init-range arena words p done)) .ordered
 
   -- Each byte of the arena lies in at most one live block.
-  pub lent-once : (x : ℕ) → length (only (hasByte x) live) ≤ 1
-  lent-once x = disjoint.lent-once (initConfig arena words p) x 0 live ordered
+  pub in-one-block : (x : ℕ) → length (only (hasByte x) live) ≤ 1
+  in-one-block x = disjoint.in-one-block (initConfig arena words p) x 0 live ordered
 
   -- Two live blocks that share a byte are one block, of one task.
   pub never-shared : (b d : Segment) → List·Memᴰ b live → List·Memᴰ d live → (x : ℕ) → hasByte x b ≡ true → hasByte x d ≡ true → b ≡ d

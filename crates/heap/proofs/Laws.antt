@@ -2,22 +2,24 @@
 -- Assumes nothing.
 use mathlib.Core.Path.{_≡_}
 use mathlib.Core.Bool.{false}
-use mathlib.Core.List.{List}
-use mathlib.Core.Option.{some}
-use Prim.Native.Nat.{ℕ, _+_, _*_}
+use mathlib.Core.List.{List, _∷_}
+use mathlib.Core.Option.{none, some}
+use Prim.Native.Nat.{ℕ, _+_, _-_, _*_, _/_}
 use native.Mathlib.Omega.{arith}
-use Rattle.model.specs.Lending.{granulesOf, freeGranules}
+use lib.ListN.{length, replicate}
+use Rattle.model.specs.Allocation.{granulesOf, freeGranules}
 use Rattle.model.specs.SegmentMap.{longestFree}
-use Rattle.model.specs.Orders.{firstReason, allocOrder, freeOrder, initOrder, totalsOrder}
+use Rattle.model.specs.Orders.{firstReason, allocOrder, freeOrder, initOrder, blockSizeOrder, totalsOrder, holdingOrder}
+use Rattle.model.specs.Rules.{initConfig}
 use Rattle.model.proofs.Choosing.{split}
 use Rattle.model.proofs.Refusing.{refused-some}
 use Rattle.model.proofs.Kept.{Kept}
 use Rattle.model.proofs.Laws.{used-free}
 use Rattle.heap.specs.Stored.{Stored}
 use Rattle.heap.specs.Valid.{valid}
-use Rattle.heap.specs.Calls.{isValid, config, state, allocAligned, afterAllocAligned, free, afterFree, arenaAfterFree, totalsOf, init, afterInit, arenaAfterInit, zeroHeap}
+use Rattle.heap.specs.Calls.{isValid, config, state, allocAligned, afterAllocAligned, free, afterFree, arenaAfterFree, blockSize, totalsOf, holdingOf, init, afterInit, arenaAfterInit, zeroHeap}
 use Rattle.heap.proofs.ValidStored.{valid-kept}
-use Rattle.heap.proofs.Init.{init-reason, zero-invalid}
+use Rattle.heap.proofs.Init.{none-applies, init-range, fresh-table, zero-invalid, init-reason}
 use Rattle.model.specs.declared.Plan.{Plan}
 use Rattle.model.specs.declared.Refusal.{Refusal}
 use Rattle.model.specs.declared.Refusal.the-variants as refusal
@@ -25,7 +27,9 @@ use Rattle.model.specs.declared.InitRefusal.{InitRefusal}
 use Rattle.model.specs.declared.Made.the-variants as made
 use Rattle.model.specs.declared.Placed.the-variants as placed
 use Rattle.model.specs.declared.Freed.the-variants as freed
+use Rattle.model.specs.declared.BlockSize.the-variants as size
 use Rattle.model.specs.declared.Totals.the-variants as totals
+use Rattle.model.specs.declared.Holding.the-variants as holding
 
 -- A refused allocation leaves the record and the table as they were.
 pub alloc-refused : (s : Stored) (o n a : ℕ) (r : Refusal) → allocAligned s o n a ≡ placed.Refused r → afterAllocAligned s o n a ≡ s
@@ -40,6 +44,16 @@ free-refused s arena o x r e =
     refused-some (freeOrder (isValid s) (config s) (state s) arena o x) _ freed.Refused r (λ z. let w : _≡_ {A = ℕ} 0 1 = cc in omega arith) e in
     (rw (q .1), rw (q .1))
 
+-- Making sets one free row over the whole arena, zeroes the other rows and the arena, and sets used and peak to 0.
+pub init-done : (arena words : List ℕ) (p : Plan) → init arena words p ≡ made.Done
+    → (afterInit arena words p .words ≡ 0 ∷ length arena / 16 ∷ 0 ∷ 0 ∷ replicate (4 * (length words / 4 - 1)) 0)
+    × (afterInit arena words p .heap .used ≡ 0)
+    × (afterInit arena words p .heap .peak ≡ 0)
+    × (arenaAfterInit arena words p ≡ replicate (length arena) 0)
+init-done arena words p done =
+    let q : firstReason (initOrder arena words p) ≡ none = none-applies arena words p done in
+    (rw q (fresh-table (initConfig arena words p) (init-range arena words p done)), rw q, rw q, rw q)
+
 -- A refused making answers an all-zero record, and leaves the table and the arena as they were.
 pub init-refused : (arena words : List ℕ) (p : Plan) (r : InitRefusal) → init arena words p ≡ made.Refused r
     → (afterInit arena words p ≡ record { heap = zeroHeap; words = words }) × (arenaAfterInit arena words p ≡ arena)
@@ -49,6 +63,20 @@ init-refused arena words p r e = let q : (t : InitRefusal) × (firstReason (init
 pub refused-invalid : (arena words : List ℕ) (p : Plan) (r : InitRefusal) → init arena words p ≡ made.Refused r
     → (ws : List ℕ) → valid (afterInit arena words p .heap) ws ≡ false
 refused-invalid arena words p r e ws = rw (init-refused arena words p r e .0) (zero-invalid ws)
+
+-- What is not a valid heap gets 1 from every call, and stays as it was.
+module _ (s : Stored) (v : isValid s ≡ false) (arena : List ℕ) (o n a x : ℕ) where
+  pub alloc-invalid : (allocAligned s o n a ≡ placed.Refused refusal.InvalidHeap) × (afterAllocAligned s o n a ≡ s)
+  unfolding allocOrder
+  alloc-invalid = (rw v, rw v)
+
+  pub free-invalid : (free s arena o x ≡ freed.Refused refusal.InvalidHeap) × (afterFree s arena o x ≡ s) × (arenaAfterFree s arena o x ≡ arena)
+  unfolding freeOrder
+  free-invalid = (rw v, rw v, rw v)
+
+  pub enquiries-invalid : (blockSize s o x ≡ size.Refused refusal.InvalidHeap) × (totalsOf s ≡ totals.Refused refusal.InvalidHeap) × (holdingOf s o ≡ holding.Refused refusal.InvalidHeap)
+  unfolding blockSizeOrder totalsOrder holdingOrder
+  enquiries-invalid = (rw v, rw v, rw v)
 
 -- In the totals, used plus free is the arena.
 pub totals-whole : (s : Stored) (used free peak longest : ℕ) → totalsOf s ≡ totals.Bytes used free peak longest → used + free ≡ 16 * s .heap .granules

@@ -3,7 +3,7 @@
 use Prim.Native.Nat.{ℕ}
 use mathlib.Core.List.{List}
 use Rattle.model.specs.Quantities.{Config}
-use Rattle.model.specs.Lending.{State, granulesOf}
+use Rattle.model.specs.Allocation.{State, granulesOf}
 use Rattle.model.specs.SegmentMap.{mapOf, rowsOf}
 use Rattle.heap.specs.Rows.{tableOf, blocksIn}
 use Rattle.heap.specs.declared.Heap.{Heap}
@@ -34,10 +34,10 @@ tableFor c h = tableOf (c .capacity) (mapOf c (h .blocks))
 abbrev pub store : Config → State → Stored
 store c h = record { heap = recordFor c h; words = tableFor c h }
 
--- What the record says that the heap was made with.
+-- A record says what its heap was made with.
 abbrev pub configOf : Heap → Config
 configOf r = record { granules = r .granules; capacity = r .capacity; granuleQuotas = r .«granule_quotas»; blockQuotas = r .«block_quotas» }
 
--- The state that is read in a record and a table: the live blocks in the rows in use, and the peak.
+-- In a record and a table is read the state of the live blocks in the rows in use, and of the peak.
 abbrev pub stateIn : Heap → List ℕ → State
 stateIn r ws = record { blocks = blocksIn (r .rows) ws; peak = r .peak }

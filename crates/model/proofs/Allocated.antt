@@ -10,10 +10,10 @@ use lib.ListN.{length}
 use borrow.Author.Tests.{not-false, leb-true}
 use Rattle.model.specs.Choose.{total}
 use Rattle.model.specs.Quantities.{isOwner, isAlignment, Config, quota}
-use Rattle.model.specs.Lending.{needed, charge, State, lowestStart, block, fit, insert, ownedBy}
+use Rattle.model.specs.Allocation.{needed, charge, State, lowestStart, block, fit, insert, ownedBy}
 use Rattle.model.specs.SegmentMap.{rowsOf}
 use Rattle.model.specs.Reasons.{noPlace, tableFull}
-use Rattle.model.specs.Orders.{Order, firstReason, properOrder, limitsOrder, allocOrder}
+use Rattle.model.specs.Orders.{Order, firstReason, properOrder, quotaOrder, allocOrder}
 use Rattle.model.proofs.Choosing.{splitOption, tests, parts, clash}
 use Rattle.model.proofs.Refusing.{NoReason, no-reason, no-first, no-second}
 use Rattle.model.specs.declared.Refusal.{Refusal}
@@ -32,7 +32,7 @@ module _ (c : Config) (h : State) where
     pub blocks : length (ownedBy o (h .blocks)) < quota (c .blockQuotas) o
     pub granules : total (charge c) (ownedBy o (h .blocks)) + needed c n ≤ quota (c .granuleQuotas) o
 
-  pub limits : (o n a : ℕ) → NoReason (properOrder o n a ++ limitsOrder c h o n) → Limits o n a
+  pub limits : (o n a : ℕ) → NoReason (properOrder o n a ++ quotaOrder c h o n) → Limits o n a
   limits o n a r =
       let owner : isOwner o ≡ true = not-false (isOwner o) (r .0) in
       record {
@@ -59,12 +59,12 @@ module _ (c : Config) (h : State) where
   unfolding allocOrder
   allocated v o n a e =
       let r : NoReason (allocOrder v c h o n a) = no-reason (allocOrder v c h o n a) e in
-      let p : NoReason (placeOrder c h o n a) = no-second (properOrder o n a ++ limitsOrder c h o n) (placeOrder c h o n a) (r .1) in
+      let p : NoReason (placeOrder c h o n a) = no-second (properOrder o n a ++ quotaOrder c h o n) (placeOrder c h o n a) (r .1) in
       splitOption (lowestStart c (h .blocks) (needed c n) a)
       (λ q. absurd (clash true refl (rw q at (p .0))))
       (λ s q. let t : ltb (c .capacity) (rowsOf c (insert (block c o n s) (h .blocks))) ≡ false = rw q at (p .1 .0) in
       record {
-        limited = limits o n a (no-first (properOrder o n a ++ limitsOrder c h o n) (placeOrder c h o n a) (r .1));
+        limited = limits o n a (no-first (properOrder o n a ++ quotaOrder c h o n) (placeOrder c h o n a) (r .1));
         start = s;
         lowest = q;
         fits = fit-at o n a s q;

@@ -10,7 +10,7 @@ use lib.ListN.{length}
 use borrow.Author.Tests.{leb-true}
 use Rattle.model.specs.Choose.{both, only}
 use Rattle.model.specs.Quantities.{Config}
-use Rattle.model.specs.Lending.{offset, bytes}
+use Rattle.model.specs.Allocation.{offset, bytes}
 use Rattle.model.proofs.Choosing.{split, tests, parts, both-left}
 use Rattle.model.proofs.Ordered.{Ordered, none-from}
 use Rattle.model.specs.declared.Segment.{Segment}
@@ -20,13 +20,13 @@ abbrev pub hasByte : ℕ → Segment → Bool
 hasByte x b = both (leb (offset b) x) (ltb x (offset b + bytes b))
 
 -- Each byte of the arena lies in at most one live block.
-pub lent-once : (c : Config) (x s : ℕ) (bs : List Segment) → Ordered c s bs → length (only (hasByte x) bs) ≤ 1
-lent-once c x s [] o = omega arith
-lent-once c x s (b ∷ bs) o =
+pub in-one-block : (c : Config) (x s : ℕ) (bs : List Segment) → Ordered c s bs → length (only (hasByte x) bs) ≤ 1
+in-one-block c x s [] o = omega arith
+in-one-block c x s (b ∷ bs) o =
     split (hasByte x b)
     (λ q. let z : ltb x (offset b + bytes b) ≡ true = search parts in
     rw (q, none-from c (hasByte x) x (λ d e. leb-true (offset d) x (both-left (leb (offset d) x) (ltb x (offset d + bytes d)) e)) (b .start + b .length) bs (omega tests) (o .2)) (omega arith))
-    (λ q. rw q (lent-once c x (b .start + b .length) bs (o .2)))
+    (λ q. rw q (in-one-block c x (b .start + b .length) bs (o .2)))
 
 member-only : {A : Type 0} (p : A → Bool) (a : A) (xs : List A) → p a ≡ true → List·Memᴰ a xs → List·Memᴰ a (only p xs)
 member-only p a xs e (List·Memᴰ·head {x = x} {xs = ys} q) = let z : p x ≡ true = rw q at e in rw z (List·Memᴰ·head q)
@@ -42,4 +42,4 @@ one-member a b (x ∷ y ∷ ys) h m n = absurd (omega arith)
 pub never-shared : (c : Config) (bs : List Segment) → Ordered c 0 bs → (b d : Segment) → List·Memᴰ b bs → List·Memᴰ d bs
     → (x : ℕ) → hasByte x b ≡ true → hasByte x d ≡ true → b ≡ d
 never-shared c bs o b d m n x p q =
-    one-member b d (only (hasByte x) bs) (lent-once c x 0 bs o) (member-only (hasByte x) b bs p m) (member-only (hasByte x) d bs q n)
+    one-member b d (only (hasByte x) bs) (in-one-block c x 0 bs o) (member-only (hasByte x) b bs p m) (member-only (hasByte x) d bs q n)

@@ -10,7 +10,7 @@ use lib.ListN.{length, length-append}
 use borrow.Author.Tests.{lt-ltb, lt-leb}
 use Rattle.model.specs.Choose.{choose, both, every, only}
 use Rattle.model.specs.Quantities.{Config}
-use Rattle.model.specs.Lending.{clearOf, insert}
+use Rattle.model.specs.Allocation.{clearOf, insert}
 use Rattle.model.specs.SegmentMap.{gap, mapFrom}
 use Rattle.model.proofs.Choosing.{split, tests, every-head, every-tail}
 use Rattle.model.proofs.Ordered.{Ordered, ends, long, clear-before, clear-after, after-clear, clear-all}

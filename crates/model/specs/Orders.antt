@@ -6,8 +6,8 @@ use mathlib.Core.List.{List, [], _∷_}
 use mathlib.Core.Option.{Option, none, some}
 use Rattle.model.specs.Choose.{choose, given}
 use Rattle.model.specs.Quantities.{Config}
-use Rattle.model.specs.Lending.{State, fit}
-use Rattle.model.specs.Reasons.{Reason, invalidHeap, badOwner, zeroSize, badAlignment, blockQuota, granuleQuota, noPlace, tableFull, notABlock, otherOwner, otherArena, badArena, badTable, badQuota}
+use Rattle.model.specs.Allocation.{State, fit}
+use Rattle.model.specs.Reasons.{Reason, invalidHeap, badOwner, zeroSize, badAlignment, blockQuotaReached, granuleQuotaExceeded, noPlace, tableFull, notABlock, otherOwner, otherArena, badArena, badTable, badQuota}
 use Rattle.model.specs.declared.Plan.{Plan}
 use Rattle.model.specs.declared.Refusal.{Refusal}
 use Rattle.model.specs.declared.InitRefusal.{InitRefusal}
@@ -25,8 +25,8 @@ module _ (isValid : Bool) (c : Config) (h : State) where
       ∷ badOwner o
       ∷ zeroSize n
       ∷ badAlignment a
-      ∷ blockQuota c (h .blocks) o
-      ∷ granuleQuota c (h .blocks) o n
+      ∷ blockQuotaReached c (h .blocks) o
+      ∷ granuleQuotaExceeded c (h .blocks) o n
       ∷ noPlace (fit c (h .blocks) o n a)
       ∷ tableFull c (h .blocks) (fit c (h .blocks) o n a)
       ∷ []
@@ -67,10 +67,10 @@ firstReason (r ∷ rs) = choose (r .0) (some (r .1)) (firstReason rs)
 abbrev pub unless : {R A : Type 0} → Order R → A → (R → A) → A
 unless order a refused = given (firstReason order) a refused
 
--- An allocation is document 01's "proper" if none of these applies: 2, 3, 4. (11 is in the order of a later request only.)
+-- Of document 01's "proper" this is the part about numbers: none of 2, 3, 4 applies. (No allocation's order has 11 yet.)
 abbrev pub properOrder : ℕ → ℕ → ℕ → Order Refusal
 properOrder o n a = badOwner o ∷ zeroSize n ∷ badAlignment a ∷ []
 
--- A proper allocation is "within limits" if neither of these applies: 5, 6.
-abbrev pub limitsOrder : Config → State → ℕ → ℕ → Order Refusal
-limitsOrder c h o n = blockQuota c (h .blocks) o ∷ granuleQuota c (h .blocks) o n ∷ []
+-- A proper allocation is document 01's "within limits" if neither of 5, 6 applies.
+abbrev pub quotaOrder : Config → State → ℕ → ℕ → Order Refusal
+quotaOrder c h o n = blockQuotaReached c (h .blocks) o ∷ granuleQuotaExceeded c (h .blocks) o n ∷ []

@@ -8,8 +8,8 @@ use lib.Dec.{leb, ltb, eqb}
 use lib.ListN.{length}
 use Rattle.model.specs.Choose.{total, given, isNone}
 use Rattle.model.specs.Quantities.{isArena, isTable, isOwner, quotasInRange, isAlignment, Config, quota}
-use Rattle.model.specs.Lending.{needed, charge, put, blockAt, ownedBy}
-use Rattle.model.specs.Arena.{isWhole}
+use Rattle.model.specs.Allocation.{needed, charge, put, blockAt, ownedBy}
+use Rattle.model.specs.Arena.{hasRecordedLength}
 use Rattle.model.specs.SegmentMap.{rowsOf}
 use Rattle.model.specs.declared.Segment.{Segment}
 use Rattle.model.specs.declared.Plan.{Plan}
@@ -39,18 +39,18 @@ abbrev pub badAlignment : ℕ → Reason Refusal
 badAlignment a = (not (isAlignment a), refusal.BadAlignment)
 
 -- 5: the owner already has as many live blocks as its block quota.
-abbrev pub blockQuota : Config → List Segment → ℕ → Reason Refusal
-blockQuota c bs o = (leb (quota (c .blockQuotas) o) (length (ownedBy o bs)), refusal.BlockQuota)
+abbrev pub blockQuotaReached : Config → List Segment → ℕ → Reason Refusal
+blockQuotaReached c bs o = (leb (quota (c .blockQuotas) o) (length (ownedBy o bs)), refusal.BlockQuota)
 
--- 6: the owner's live granules plus those of n bytes exceed its granule quota.
-abbrev pub granuleQuota : Config → List Segment → ℕ → ℕ → Reason Refusal
-granuleQuota c bs o n = (ltb (quota (c .granuleQuotas) o) (total (charge c) (ownedBy o bs) + needed c n), refusal.GranuleQuota)
+-- 6: the owner's live granules plus those of n bytes exceed its granule quota (its blocks are counted by `charge`).
+abbrev pub granuleQuotaExceeded : Config → List Segment → ℕ → ℕ → Reason Refusal
+granuleQuotaExceeded c bs o n = (ltb (quota (c .granuleQuotas) o) (total (charge c) (ownedBy o bs) + needed c n), refusal.GranuleQuota)
 
 -- 7: no start serves, so there is no block to place.
 abbrev pub noPlace : Option Segment → Reason Refusal
 noPlace f = (isNone f, refusal.NoPlace)
 
--- 8: with the block placed, the rows in use exceed the table's.
+-- 8: with the block placed, the rows in use exceed the table's; `eight` is 01's wording of it.
 abbrev pub tableFull : Config → List Segment → Option Segment → Reason Refusal
 tableFull c bs f = (ltb (c .capacity) (rowsOf c (put f bs)), refusal.TableFull)
 
@@ -64,7 +64,7 @@ otherOwner bs o x = (given (blockAt x bs) false (λ b. not (eqb (b .owner) o)), 
 
 -- 11 of a call on a heap: the arena's length is not the one recorded.
 abbrev pub otherArena : Config → List ℕ → Reason Refusal
-otherArena c arena = (not (isWhole c arena), refusal.ArenaLength)
+otherArena c arena = (not (hasRecordedLength c arena), refusal.ArenaLength)
 
 -- 11 of a making: the arena's length is not allowed.
 abbrev pub badArena : List ℕ → Reason InitRefusal

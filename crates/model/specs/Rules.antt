@@ -1,4 +1,4 @@
--- What each call answers and leaves, by the rules of lending and the orders of refusal: of a set of live blocks, apart from how it is written down.
+-- What each call answers and leaves, of a set of live blocks; a call to which a reason applies answers the first, and leaves all as it was.
 -- Assumes nothing.
 use Prim.Native.Nat.{ℕ, _*_, _/_}
 use mathlib.Core.Bool.{Bool}
@@ -6,7 +6,7 @@ use mathlib.Core.List.{List}
 use lib.ListN.{length, replicate}
 use Rattle.model.specs.Choose.{given}
 use Rattle.model.specs.Quantities.{Config}
-use Rattle.model.specs.Lending.{State, fit, put, offset, blockAt, without, bytes, ownedBy, granulesOf, freeGranules, changed}
+use Rattle.model.specs.Allocation.{State, fit, put, offset, blockAt, without, bytes, ownedBy, granulesOf, freeGranules, changed}
 use Rattle.model.specs.Arena.{zeroed}
 use Rattle.model.specs.SegmentMap.{longestFree}
 use Rattle.model.specs.Orders.{unless, allocOrder, freeOrder, initOrder, blockSizeOrder, totalsOrder, holdingOrder}
@@ -24,9 +24,9 @@ use Rattle.model.specs.declared.Totals.the-variants as totals
 use Rattle.model.specs.declared.Holding.{Holding}
 use Rattle.model.specs.declared.Holding.the-variants as holding
 
--- Making, handed an arena, a table's words and a plan.
+-- Making is handed an arena, a table's words and a plan.
 module _ (arena words : List ℕ) (p : Plan) where
-  -- It answers that it is done.
+  -- It answers that it is done, or why not.
   abbrev pub init : Made
   init = unless (initOrder arena words p) made.Done made.Refused
 
@@ -35,49 +35,49 @@ module _ (arena words : List ℕ) (p : Plan) where
   initConfig =
       record { granules = length arena / 16; capacity = length words / 4; granuleQuotas = p .«granule_quotas»; blockQuotas = p .«block_quotas» }
 
-  -- It zeroes the arena.
+  -- It zeroes the arena, unless it is refused.
   abbrev pub arenaAfterInit : List ℕ
   arenaAfterInit = unless (initOrder arena words p) (replicate (length arena) 0) (λ r. arena)
 
--- The state with the block of an allocation live.
+-- Placing adds the block of an allocation to the live blocks.
 abbrev pub placing : Config → State → ℕ → ℕ → ℕ → State
 placing c h o n a = changed h (put (fit c (h .blocks) o n a) (h .blocks))
 
--- The state with the block at x taken out.
+-- Releasing takes the block at x out of them.
 abbrev pub releasing : State → ℕ → State
 releasing h x = changed h (without x (h .blocks))
 
--- The bytes that the block at x holds.
+-- The block at x holds so many bytes, 0 if there is none.
 abbrev pub bytesAt : State → ℕ → ℕ
 bytesAt h x = given (blockAt x (h .blocks)) 0 bytes
 
--- Every other call: whether the record and the table that it is handed are a valid heap, what that was made with, and its state.
+-- Every other call is told whether the record and the table are a valid heap, what that was made with, and its state.
 module _ (isValid : Bool) (c : Config) (h : State) where
   -- An allocation of n bytes on a boundary of a bytes answers the byte offset of its block.
   abbrev pub alloc : ℕ → ℕ → ℕ → Placed
   alloc o n a = unless (allocOrder isValid c h o n a) (placed.At (given (fit c (h .blocks) o n a) 0 offset)) placed.Refused
 
-  -- Its block is live then.
+  -- Its block is live then, unless it is refused.
   abbrev pub afterAlloc : ℕ → ℕ → ℕ → State
   afterAlloc o n a = unless (allocOrder isValid c h o n a) (placing c h o n a) (λ r. h)
 
-  -- It is granted the granules of its block.
+  -- It is granted the granules of its block; refused, none.
   abbrev pub grantedAlloc : ℕ → ℕ → ℕ → ℕ
   grantedAlloc o n a = unless (allocOrder isValid c h o n a) (given (fit c (h .blocks) o n a) 0 (λ b. b .length)) (λ r. 0)
 
-  -- A free answers the bytes that its block held.
+  -- A free answers the bytes that its block holds.
   abbrev pub free : List ℕ → ℕ → ℕ → Freed
   free arena o x = unless (freeOrder isValid c h arena o x) (freed.Bytes (bytesAt h x)) freed.Refused
 
-  -- Its block is live no more.
+  -- Its block is live no more, unless it is refused.
   abbrev pub afterFree : List ℕ → ℕ → ℕ → State
   afterFree arena o x = unless (freeOrder isValid c h arena o x) (releasing h x) (λ r. h)
 
-  -- It returns the granules of its block.
+  -- It returns the granules of its block; refused, none.
   abbrev pub returnedFree : List ℕ → ℕ → ℕ → ℕ
   returnedFree arena o x = unless (freeOrder isValid c h arena o x) (given (blockAt x (h .blocks)) 0 (λ b. b .length)) (λ r. 0)
 
-  -- All bytes of its block are zero then, and every other byte of the arena stays.
+  -- All bytes of its block are zero then, unless it is refused, and every other byte of the arena stays.
   abbrev pub arenaAfterFree : List ℕ → ℕ → ℕ → List ℕ
   arenaAfterFree arena o x = unless (freeOrder isValid c h arena o x) (zeroed x (bytesAt h x) arena) (λ r. arena)
 

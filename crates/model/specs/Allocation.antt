@@ -13,7 +13,7 @@ use Rattle.model.specs.declared.Segment.{Segment}
 abbrev pub granulesFor : ℕ → ℕ
 granulesFor n = (n + 15) / 16
 
--- A block of n bytes is so many granules long in this heap.
+-- In every heap a block of n bytes is as long as n bytes need.
 abbrev pub needed : Config → ℕ → ℕ
 needed c n = granulesFor n
 
@@ -38,24 +38,24 @@ room c bs g s = both (leb (s + g) (c .granules)) (every (clearOf s g) bs)
 abbrev pub serves : Config → List Segment → ℕ → ℕ → ℕ → Bool
 serves c bs g a s = both (eqb ((16 * s) % a) 0) (room c bs g s)
 
--- The lowest start that serves: each granule of the arena is tried in turn, and the search stops at the first that serves.
+-- The lowest start that serves, if one does.
 abbrev pub lowestStart : Config → List Segment → ℕ → ℕ → Option ℕ
 lowestStart c bs g a = leastFrom (serves c bs g a) 0 (c .granules)
 
--- The block of owner o and n bytes at start s.
+-- A block of owner o and n bytes at start s has the granules that n bytes need.
 abbrev pub block : Config → ℕ → ℕ → ℕ → Segment
 block c o n s = record { start = s; length = needed c n; owner = o; requested = n }
 
--- The block that an allocation gets: the one at the lowest start, if there is one.
+-- An allocation gets the block at the lowest start, if there is one.
 abbrev pub fit : Config → List Segment → ℕ → ℕ → ℕ → Option Segment
 fit c bs o n a = given (lowestStart c bs (needed c n) a) none (λ s. some (block c o n s))
 
--- The blocks with one more, at its place in address order.
+-- A block more is at its place in address order.
 abbrev pub insert : Segment → List Segment → List Segment
 insert b [] = b ∷ []
 insert b (x ∷ xs) = choose (ltb (b .start) (x .start)) (b ∷ x ∷ xs) (x ∷ insert b xs)
 
--- The blocks with one more, if there is one.
+-- Where there is no block more, the blocks are as they were.
 abbrev pub put : Option Segment → List Segment → List Segment
 put f bs = given f bs (λ b. insert b bs)
 
@@ -63,11 +63,11 @@ put f bs = given f bs (λ b. insert b bs)
 abbrev pub offset : Segment → ℕ
 offset b = 16 * b .start
 
--- The live block whose first byte is x, if there is one.
+-- The block at x is the live block whose first byte is x, if there is one.
 abbrev pub blockAt : ℕ → List Segment → Option Segment
 blockAt x bs = firstOf (λ (b : Segment). eqb (offset b) x) bs
 
--- The blocks with the one whose first byte is x taken out of the set.
+-- The block at x is taken out of the set.
 abbrev pub without : ℕ → List Segment → List Segment
 without x bs = only (λ (b : Segment). not (eqb (offset b) x)) bs
 
@@ -75,7 +75,7 @@ without x bs = only (λ (b : Segment). not (eqb (offset b) x)) bs
 abbrev pub bytes : Segment → ℕ
 bytes b = 16 * b .length
 
--- The granules that the blocks hold; of all live blocks these are the granules used.
+-- Blocks hold the sum of their lengths; what all live blocks hold is used.
 abbrev pub granulesOf : List Segment → ℕ
 granulesOf bs = total (λ (b : Segment). b .length) bs
 
@@ -83,14 +83,14 @@ granulesOf bs = total (λ (b : Segment). b .length) bs
 abbrev pub freeGranules : Config → List Segment → ℕ
 freeGranules c bs = c .granules - granulesOf bs
 
--- The state with other live blocks: the peak is the largest that used has been, so it is raised to what they hold and never lowered.
+-- With other live blocks the peak is raised to what they hold, and never lowered: it is the largest that used has been.
 abbrev pub changed : State → List Segment → State
 changed h bs = record { blocks = bs; peak = max (h .peak) (granulesOf bs) }
 
--- The blocks of one owner.
+-- An owner's blocks are those with its number.
 abbrev pub ownedBy : ℕ → List Segment → List Segment
 ownedBy o bs = only (λ (b : Segment). eqb (b .owner) o) bs
 
--- A block counts the granules of its bytes requested against its owner's granule quota.
+-- A block counts the granules of its bytes requested against its owner's granule quota; in a valid heap these are its length.
 abbrev pub charge : Config → Segment → ℕ
 charge c b = needed c (b .requested)

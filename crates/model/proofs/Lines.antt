@@ -1,0 +1,47 @@
+-- Each order of refusal, as the line of numbers that document 01 has.
+-- Assumes nothing.
+use mathlib.Core.Path.{_≡_, refl}
+use mathlib.Core.Bool.{Bool}
+use mathlib.Core.List.{List, [], _∷_}
+use Prim.Native.Nat.{ℕ}
+use Rattle.model.specs.Quantities.{Config}
+use Rattle.model.specs.Allocation.{State}
+use Rattle.model.specs.Orders.{Order, allocOrder, freeOrder, initOrder, blockSizeOrder, totalsOrder, holdingOrder}
+use Rattle.model.specs.Numbers.{numberOf, initNumberOf}
+use Rattle.model.specs.declared.Plan.{Plan}
+
+-- The numbers of an order.
+abbrev pub line : {R : Type 0} → (R → ℕ) → Order R → List ℕ
+line number [] = []
+line number (r ∷ rs) = number (r .1) ∷ line number rs
+
+module _ (v : Bool) (c : Config) (h : State) (arena words : List ℕ) (p : Plan) (o n a x : ℕ) where
+  -- Order for an ask.
+  pub alloc-line : line numberOf (allocOrder v c h o n a) ≡ 1 ∷ 2 ∷ 3 ∷ 4 ∷ 5 ∷ 6 ∷ 7 ∷ 8 ∷ []
+  unfolding allocOrder
+  alloc-line = refl
+
+  -- For a return.
+  pub free-line : line numberOf (freeOrder v c h arena o x) ≡ 1 ∷ 11 ∷ 2 ∷ 9 ∷ 10 ∷ []
+  unfolding freeOrder
+  free-line = refl
+
+  -- For making.
+  pub init-line : line initNumberOf (initOrder arena words p) ≡ 11 ∷ 12 ∷ 13 ∷ []
+  unfolding initOrder
+  init-line = refl
+
+  -- For a block's size.
+  pub block-size-line : line numberOf (blockSizeOrder v h o x) ≡ 1 ∷ 2 ∷ 9 ∷ 10 ∷ []
+  unfolding blockSizeOrder
+  block-size-line = refl
+
+  -- For the totals.
+  pub totals-line : line numberOf (totalsOrder v) ≡ 1 ∷ []
+  unfolding totalsOrder
+  totals-line = refl
+
+  -- For one owner's blocks and bytes held.
+  pub holding-line : line numberOf (holdingOrder v o) ≡ 1 ∷ 2 ∷ []
+  unfolding holdingOrder
+  holding-line = refl
