@@ -4,7 +4,7 @@ use mathlib.Core.Path.{_≡_, ap, _∙_}
 use mathlib.Core.List.{List, _++_}
 use Prim.Native.Nat.{ℕ, _+_, _-_, _≤_, _<_}
 use native.Mathlib.Omega.{arith}
-use lib.ListN.{length, getD, take, drop, replicate, length-append, length-drop, length-replicate, getD-replicate, List·getD-append}
+use lib.ListN.{length, getD, take, drop, length-append, length-drop, length-replicate, getD-replicate, List·getD-append}
 use lib.Seq.{length-take-le, getD-append-add, getD-take, getD-drop}
 use Rattle.model.specs.Arena.{written, zeroed}
 
@@ -40,17 +40,17 @@ module _ (x k : ℕ) (part arena : List ℕ) (l : length part ≡ k) (h : x + k 
 module _ (x k : ℕ) (arena : List ℕ) (h : x + k ≤ length arena) where
   -- The arena keeps its length.
   pub length-zeroed : length (zeroed x k arena) ≡ length arena
-  length-zeroed = length-written x k (replicate k 0) arena (length-replicate k 0) h
+  length-zeroed = length-written x k _ arena (length-replicate k _) h
 
   -- Each of the k bytes is zero.
   pub zeroed-in : (i : ℕ) → x ≤ i → i < x + k → getD (zeroed x k arena) i 0 ≡ 0
   zeroed-in i p q =
-      byte-in x k (replicate k 0) arena (length-replicate k 0) h i (i - x) (omega arith) (omega arith) ∙ getD-replicate k (i - x) 0 0 (omega arith)
+      byte-in x k _ arena (length-replicate k _) h i (i - x) (omega arith) (omega arith) ∙ getD-replicate k (i - x) _ 0 (omega arith)
 
   -- Each byte before them is as it was.
   pub zeroed-before : (i : ℕ) → i < x → getD (zeroed x k arena) i 0 ≡ getD arena i 0
-  zeroed-before i p = byte-before x k (replicate k 0) arena (length-replicate k 0) h i p
+  zeroed-before i p = byte-before x k _ arena (length-replicate k _) h i p
 
   -- Each byte after them is as it was.
   pub zeroed-after : (i : ℕ) → x + k ≤ i → getD (zeroed x k arena) i 0 ≡ getD arena i 0
-  zeroed-after i p = byte-after x k (replicate k 0) arena (length-replicate k 0) h i p
+  zeroed-after i p = byte-after x k _ arena (length-replicate k _) h i p
