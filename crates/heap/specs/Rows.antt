@@ -16,11 +16,11 @@ wordsOf (x ∷ xs) = x .start ∷ x .length ∷ x .owner ∷ x .requested ∷ wo
 abbrev pub tableOf : ℕ → List Segment → List ℕ
 tableOf capacity xs = wordsOf xs ++ replicate (4 * (capacity - length xs)) 0
 
--- Row i has the segment of its four words.
+-- Row i holds the segment made of its four words.
 abbrev pub segmentAt : List ℕ → ℕ → Segment
 segmentAt ws i = record { start = getD ws (4 * i) 0; length = getD ws (4 * i + 1) 0; owner = getD ws (4 * i + 2) 0; requested = getD ws (4 * i + 3) 0 }
 
--- The first n rows have so many segments.
+-- The first n rows hold a segment each.
 abbrev pub segmentsIn : ℕ → List ℕ → List Segment
 segmentsIn zero ws = []
 segmentsIn (suc n) ws = segmentAt ws 0 ∷ segmentsIn n (drop 4 ws)

@@ -38,6 +38,6 @@ store c h = record { heap = recordFor c h; words = tableFor c h }
 abbrev pub configOf : Heap → Config
 configOf r = record { granules = r .granules; capacity = r .capacity; granuleQuotas = r .«granule_quotas»; blockQuotas = r .«block_quotas» }
 
--- In a record and a table is read the state of the live blocks in the rows in use, and of the peak.
+-- The state read in a record and a table is the live blocks in the rows in use, and the peak.
 abbrev pub stateIn : Heap → List ℕ → State
 stateIn r ws = record { blocks = blocksIn (r .rows) ws; peak = r .peak }

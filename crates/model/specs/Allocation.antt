@@ -42,7 +42,7 @@ serves c bs g a s = both (eqb ((16 * s) % a) 0) (room c bs g s)
 abbrev pub lowestStart : Config → List Segment → ℕ → ℕ → Option ℕ
 lowestStart c bs g a = leastFrom (serves c bs g a) 0 (c .granules)
 
--- A block of owner o and n bytes at start s has the granules that n bytes need.
+-- A block has a start granule, a length in granules, an owner and the bytes requested.
 abbrev pub block : Config → ℕ → ℕ → ℕ → Segment
 block c o n s = record { start = s; length = needed c n; owner = o; requested = n }
 
@@ -50,12 +50,12 @@ block c o n s = record { start = s; length = needed c n; owner = o; requested = 
 abbrev pub fit : Config → List Segment → ℕ → ℕ → ℕ → Option Segment
 fit c bs o n a = given (lowestStart c bs (needed c n) a) none (λ s. some (block c o n s))
 
--- A block more is at its place in address order.
+-- A new block is inserted at its place in address order.
 abbrev pub insert : Segment → List Segment → List Segment
 insert b [] = b ∷ []
 insert b (x ∷ xs) = choose (ltb (b .start) (x .start)) (b ∷ x ∷ xs) (x ∷ insert b xs)
 
--- Where there is no block more, the blocks are as they were.
+-- A block, if there is one, is inserted among the others.
 abbrev pub put : Option Segment → List Segment → List Segment
 put f bs = given f bs (λ b. insert b bs)
 
@@ -67,7 +67,7 @@ offset b = 16 * b .start
 abbrev pub blockAt : ℕ → List Segment → Option Segment
 blockAt x bs = firstOf (λ (b : Segment). eqb (offset b) x) bs
 
--- The block at x is taken out of the set.
+-- A return takes the block at x out of the set.
 abbrev pub without : ℕ → List Segment → List Segment
 without x bs = only (λ (b : Segment). not (eqb (offset b) x)) bs
 
@@ -75,7 +75,7 @@ without x bs = only (λ (b : Segment). not (eqb (offset b) x)) bs
 abbrev pub bytes : Segment → ℕ
 bytes b = 16 * b .length
 
--- Blocks hold the sum of their lengths; what all live blocks hold is used.
+-- Blocks hold the sum of their lengths in granules; what all live blocks hold is used.
 abbrev pub granulesOf : List Segment → ℕ
 granulesOf bs = total (λ (b : Segment). b .length) bs
 

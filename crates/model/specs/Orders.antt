@@ -16,7 +16,7 @@ use Rattle.model.specs.declared.InitRefusal.{InitRefusal}
 abbrev pub Order : Type 0 → Type 0
 Order R = List (Reason R)
 
--- For every call on a heap: whether its record and table are a valid heap, what it was made with, and its state.
+-- A call on a heap is told whether the record and the table are a valid heap, what that was made with, and its state.
 module _ (isValid : Bool) (c : Config) (h : State) where
   -- For an allocation: 1, 2, 3, 4, 5, 6, 7, 8.
   unfoldable pub allocOrder : ℕ → ℕ → ℕ → Order Refusal
@@ -63,7 +63,7 @@ abbrev pub firstReason : {R : Type 0} → Order R → Option R
 firstReason [] = none
 firstReason (r ∷ rs) = choose (r .0) (some (r .1)) (firstReason rs)
 
--- What a call comes to where no reason applies, else what is made of the first that does.
+-- A call comes to its value where no reason applies, else to what is made of the first that does.
 abbrev pub unless : {R A : Type 0} → Order R → A → (R → A) → A
 unless order a refused = given (firstReason order) a refused
 

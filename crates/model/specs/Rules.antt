@@ -43,7 +43,7 @@ module _ (arena words : List ℕ) (p : Plan) where
 abbrev pub placing : Config → State → ℕ → ℕ → ℕ → State
 placing c h o n a = changed h (put (fit c (h .blocks) o n a) (h .blocks))
 
--- Releasing takes the block at x out of them.
+-- Releasing takes the block at x out of the live blocks.
 abbrev pub releasing : State → ℕ → State
 releasing h x = changed h (without x (h .blocks))
 
