@@ -1,12 +1,13 @@
 -- What the calls' definitions come to, for a reader: laws that hold for every record and every table.
 -- Assumes nothing.
 use mathlib.Core.Path.{_≡_}
-use mathlib.Core.Bool.{false}
+use mathlib.Core.Bool.{true, false}
 use mathlib.Core.List.{List, _∷_}
 use mathlib.Core.Option.{none, some}
 use Prim.Native.Nat.{ℕ, _+_, _-_, _*_, _/_}
 use native.Mathlib.Omega.{arith}
 use lib.ListN.{length, replicate}
+use Rattle.model.specs.Quantities.{inRange}
 use Rattle.model.specs.Allocation.{granulesOf, freeGranules}
 use Rattle.model.specs.SegmentMap.{longestFree}
 use Rattle.model.specs.Orders.{firstReason, allocOrder, freeOrder, initOrder, blockSizeOrder, totalsOrder, holdingOrder}
@@ -19,7 +20,7 @@ use Rattle.heap.specs.Stored.{Stored}
 use Rattle.heap.specs.Valid.{valid}
 use Rattle.heap.specs.Calls.{isValid, config, state, allocAligned, afterAllocAligned, free, afterFree, arenaAfterFree, blockSize, totalsOf, holdingOf, init, afterInit, arenaAfterInit, zeroHeap}
 use Rattle.heap.proofs.ValidStored.{valid-kept}
-use Rattle.heap.proofs.Init.{none-applies, init-range, fresh-table, zero-invalid, init-reason}
+use Rattle.heap.proofs.Init.{none-applies, init-range, fresh-rows, fresh-table, zero-invalid, init-reason}
 use Rattle.model.specs.declared.Plan.{Plan}
 use Rattle.model.specs.declared.Refusal.{Refusal}
 use Rattle.model.specs.declared.Refusal.the-variants as refusal
@@ -44,15 +45,17 @@ free-refused s arena o x r e =
     refused-some (freeOrder (isValid s) (config s) (state s) arena o x) _ freed.Refused r (λ z. let w : _≡_ {A = ℕ} 0 1 = cc in omega arith) e in
     (rw (q .1), rw (q .1))
 
--- Making sets one free row over the whole arena, zeroes the other rows and the arena, and sets used and peak to 0.
+-- A making that is not refused sets one free row over the whole arena, zeroes the other rows and the arena, and sets used and peak to 0.
 pub init-done : (arena words : List ℕ) (p : Plan) → init arena words p ≡ made.Done
     → (afterInit arena words p .words ≡ 0 ∷ length arena / 16 ∷ 0 ∷ 0 ∷ replicate (4 * (length words / 4 - 1)) 0)
+    × (afterInit arena words p .heap .rows ≡ 1)
     × (afterInit arena words p .heap .used ≡ 0)
     × (afterInit arena words p .heap .peak ≡ 0)
     × (arenaAfterInit arena words p ≡ replicate (length arena) 0)
 init-done arena words p done =
     let q : firstReason (initOrder arena words p) ≡ none = none-applies arena words p done in
-    (rw q (fresh-table (initConfig arena words p) (init-range arena words p done)), rw q, rw q, rw q)
+    let ranged : inRange (initConfig arena words p) ≡ true = init-range arena words p done in
+    (rw q (fresh-table (initConfig arena words p) ranged), rw q (fresh-rows (initConfig arena words p) ranged), rw q, rw q, rw q)
 
 -- A refused making answers an all-zero record, and leaves the table and the arena as they were.
 pub init-refused : (arena words : List ℕ) (p : Plan) (r : InitRefusal) → init arena words p ≡ made.Refused r

@@ -8,25 +8,30 @@ use lib.ListN.{length, getD, take, drop, length-append, length-drop, length-repl
 use lib.Seq.{length-take-le, getD-append-add, getD-take, getD-drop}
 use Rattle.model.specs.Arena.{written, zeroed}
 
+-- Of a part of k bytes from x on.
 module _ (x k : ℕ) (part arena : List ℕ) (l : length part ≡ k) (h : x + k ≤ length arena) where
   front : length (take x arena ++ part) ≡ x + k
   front = length-append (take x arena) part ∙ (omega (arith, l, length-take-le x arena (omega arith)))
 
+  -- The arena keeps its length.
   pub length-written : length (written x part arena) ≡ length arena
   length-written = length-append (take x arena ++ part) (drop (x + length part) arena) ∙ (omega (arith, l, front, length-drop (x + length part) arena))
 
+  -- Byte j of the part stands at x + j.
   pub byte-in : (i j : ℕ) → i ≡ x + j → j < k → getD (written x part arena) i 0 ≡ getD part j 0
   byte-in i j e q =
       List·getD-append (take x arena ++ part) (drop (x + length part) arena) 0 i (omega (arith, front))
       ∙ ap (λ (n : ℕ). getD (take x arena ++ part) n 0) (omega (arith, length-take-le x arena (omega arith)))
       ∙ getD-append-add (take x arena) part j 0
 
+  -- Each byte before the part is as it was.
   pub byte-before : (i : ℕ) → i < x → getD (written x part arena) i 0 ≡ getD arena i 0
   byte-before i q =
       List·getD-append (take x arena ++ part) (drop (x + length part) arena) 0 i (omega (arith, front))
       ∙ List·getD-append (take x arena) part 0 i (omega (arith, length-take-le x arena (omega arith)))
       ∙ getD-take x arena i 0 q
 
+  -- Each byte after it is as it was.
   pub byte-after : (i : ℕ) → x + k ≤ i → getD (written x part arena) i 0 ≡ getD arena i 0
   byte-after i q =
       let d : ℕ = i - (x + k) in

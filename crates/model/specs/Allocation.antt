@@ -13,7 +13,7 @@ use Rattle.model.specs.declared.Segment.{Segment}
 abbrev pub granulesFor : ℕ → ℕ
 granulesFor n = (n + 15) / 16
 
--- In every heap a block of n bytes is as long as n bytes need.
+-- A block of n bytes is as long as n bytes need, whatever its heap was made with.
 abbrev pub needed : Config → ℕ → ℕ
 needed c n = granulesFor n
 
@@ -30,7 +30,7 @@ fresh = record { blocks = []; peak = 0 }
 abbrev pub clearOf : ℕ → ℕ → Segment → Bool
 clearOf s g b = either (leb (s + g) (b .start)) (leb (b .start + b .length) s)
 
--- There is room for g granules at s: s + g is at most the arena's granules, and none of them is in a live block.
+-- There is room for g granules at s: s + g is at most the arena's granules, and none of the granules s to s + g - 1 is in a live block.
 abbrev pub room : Config → List Segment → ℕ → ℕ → Bool
 room c bs g s = both (leb (s + g) (c .granules)) (every (clearOf s g) bs)
 
@@ -42,7 +42,7 @@ serves c bs g a s = both (eqb ((16 * s) % a) 0) (room c bs g s)
 abbrev pub lowestStart : Config → List Segment → ℕ → ℕ → Option ℕ
 lowestStart c bs g a = leastFrom (serves c bs g a) 0 (c .granules)
 
--- A block has a start granule, a length in granules, an owner and the bytes requested.
+-- The block of owner o for n bytes at s has a start granule, a length in granules, an owner and the bytes requested.
 abbrev pub block : Config → ℕ → ℕ → ℕ → Segment
 block c o n s = record { start = s; length = needed c n; owner = o; requested = n }
 
@@ -83,7 +83,7 @@ granulesOf bs = total (λ (b : Segment). b .length) bs
 abbrev pub freeGranules : Config → List Segment → ℕ
 freeGranules c bs = c .granules - granulesOf bs
 
--- With other live blocks the peak is raised to what they hold, and never lowered: it is the largest that used has been.
+-- In a state with these live blocks instead, the peak is raised to what they hold if that is more, and never lowered.
 abbrev pub changed : State → List Segment → State
 changed h bs = record { blocks = bs; peak = max (h .peak) (granulesOf bs) }
 

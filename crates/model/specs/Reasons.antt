@@ -50,7 +50,7 @@ granuleQuotaExceeded c bs o n = (ltb (quota (c .granuleQuotas) o) (total (charge
 abbrev pub noPlace : Option Segment → Reason Refusal
 noPlace f = (isNone f, refusal.NoPlace)
 
--- 8: with the block placed, the rows in use exceed the table's; `eight` is 01's wording of it.
+-- 8: with the block placed, the rows in use exceed the table's; the law `eight` (proofs/Laws) says so in 01's words.
 abbrev pub tableFull : Config → List Segment → Option Segment → Reason Refusal
 tableFull c bs f = (ltb (c .capacity) (rowsOf c (put f bs)), refusal.TableFull)
 
