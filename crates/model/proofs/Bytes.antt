@@ -4,9 +4,12 @@ use mathlib.Core.Path.{_≡_, ap, _∙_}
 use mathlib.Core.List.{List, _++_}
 use Prim.Native.Nat.{ℕ, _+_, _-_, _≤_, _<_}
 use native.Mathlib.Omega.{arith}
+use lib.Dec.{leb, ltb}
 use lib.ListN.{length, getD, take, drop, length-append, length-drop, length-replicate, getD-replicate, List·getD-append}
 use lib.Seq.{length-take-le, getD-append-add, getD-take, getD-drop}
+use Rattle.model.specs.Choose.{choose, both}
 use Rattle.model.specs.Arena.{written, zeroed}
+use Rattle.model.proofs.Choosing.{split, tests}
 
 -- Of a part of k bytes from x on.
 module _ (x k : ℕ) (part arena : List ℕ) (l : length part ≡ k) (h : x + k ≤ length arena) where
@@ -59,3 +62,10 @@ module _ (x k : ℕ) (arena : List ℕ) (h : x + k ≤ length arena) where
   -- Each byte after them is as it was.
   pub zeroed-after : (i : ℕ) → x + k ≤ i → getD (zeroed x k arena) i 0 ≡ getD arena i 0
   zeroed-after i p = byte-after x k _ arena (length-replicate k _) h i p
+
+  -- So a byte is zero if it is one of the k, and else as it was.
+  pub zeroed-each : (i : ℕ) → getD (zeroed x k arena) i 0 ≡ choose (both (leb x i) (ltb i (x + k))) 0 (getD arena i 0)
+  zeroed-each i =
+      split (leb x i)
+      (λ p. split (ltb i (x + k)) (λ q. rw (p, q) (zeroed-in i (omega tests) (omega tests))) (λ q. rw (p, q) (zeroed-after i (omega tests))))
+      (λ p. rw p (zeroed-before i (omega tests)))
