@@ -34,7 +34,7 @@ clearOf s g b = either (leb (s + g) (b .start)) (leb (b .start + b .length) s)
 abbrev pub room : Config → List Segment → ℕ → ℕ → Bool
 room c bs g s = both (leb (s + g) (c .granules)) (every (clearOf s g) bs)
 
--- A start s serves g granules on a boundary of a bytes: 16 s is a multiple of a, and there is room.
+-- A start s serves g granules on a boundary of a bytes: 16 s, counted from the arena's first byte, is a multiple of a, and there is room.
 abbrev pub serves : Config → List Segment → ℕ → ℕ → ℕ → Bool
 serves c bs g a s = both (eqb ((16 * s) % a) 0) (room c bs g s)
 
