@@ -8,7 +8,7 @@ use Rattle.model.specs.Allocation.{State}
 use Rattle.model.specs.Orders.{allocOrder, freeOrder, initOrder, blockSizeOrder, totalsOrder, holdingOrder}
 use Rattle.model.specs.Rules.{initConfig}
 use Rattle.model.specs.Numbers.{Numbered}
-use Rattle.heap.specs.Rows.{segmentsIn}
+use Rattle.segments.specs.Rows.{segmentsIn}
 use Rattle.heap.specs.Stored.{Stored, store}
 use Rattle.heap.specs.Valid.{valid}
 use Rattle.guarantee.specs.Lists.{Call, block-size, totals, holding, execute, numbered}

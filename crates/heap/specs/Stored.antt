@@ -5,7 +5,7 @@ use mathlib.Core.List.{List}
 use Rattle.model.specs.Quantities.{Config}
 use Rattle.model.specs.Allocation.{State, granulesOf}
 use Rattle.model.specs.SegmentMap.{mapOf, rowsOf}
-use Rattle.heap.specs.Rows.{tableOf, blocksIn}
+use Rattle.segments.specs.Rows.{tableOf, blocksIn}
 use Rattle.heap.specs.declared.Heap.{Heap}
 
 -- A heap is handed in as a record and the words of a table.

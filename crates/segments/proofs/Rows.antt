@@ -11,7 +11,7 @@ use lib.Seq.{drop-at}
 use borrow.Author.Tests.{eqb-true}
 use Rattle.model.specs.Choose.{every}
 use Rattle.model.proofs.Choosing.{every-head, every-tail}
-use Rattle.heap.specs.Rows.{wordsOf, tableOf, segmentsIn}
+use Rattle.segments.specs.Rows.{wordsOf, tableOf, segmentsIn}
 use Rattle.model.specs.declared.Segment.{Segment}
 
 -- Segments that are written are read back.

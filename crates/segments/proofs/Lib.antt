@@ -1,0 +1,5 @@
+-- The laws of the table.
+-- Assumes nothing.
+pub mod Rows
+pub mod MapTiles
+pub mod TilesMap

@@ -1,0 +1,4 @@
+-- The definitions of the table, in the order in which they are read.
+-- Assumes nothing.
+pub mod Rows
+pub mod Tiling

@@ -1,0 +1,1 @@
+// The table: rows in a lent slice of words.
