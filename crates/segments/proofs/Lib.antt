@@ -3,3 +3,4 @@
 pub mod Rows
 pub mod MapTiles
 pub mod TilesMap
+pub mod Reading

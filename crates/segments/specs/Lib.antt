@@ -2,3 +2,6 @@
 -- Assumes nothing.
 pub mod Rows
 pub mod Tiling
+pub mod Search
+pub mod Counting
+pub mod Changes

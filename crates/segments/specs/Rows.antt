@@ -1,8 +1,9 @@
--- The rows of a table as words: written, and read back.
+-- The rows of a table as words: written, read back, and written over.
 -- Assumes nothing.
-use Prim.Native.Nat.{ℕ, zero, suc, _+_, _-_, _*_}
+use Prim.Native.Nat.{ℕ, zero, suc, _+_, _-_, _*_, max}
+use mathlib.Core.Path.{_≡_}
 use mathlib.Core.List.{List, [], _∷_, _++_}
-use lib.ListN.{length, replicate, getD, drop}
+use lib.ListN.{length, replicate, getD, take, drop}
 use Rattle.model.specs.Choose.{only}
 use Rattle.model.specs.SegmentMap.{isLive}
 use Rattle.model.specs.declared.Segment.{Segment}
@@ -28,3 +29,24 @@ segmentsIn (suc n) ws = segmentAt ws 0 ∷ segmentsIn n (drop 4 ws)
 -- The live blocks in the first n rows are the segments there that are not free.
 abbrev pub blocksIn : ℕ → List ℕ → List Segment
 blocksIn n ws = only isLive (segmentsIn n ws)
+
+-- A table with row i set has every other word as it was.
+abbrev pub withRow : List ℕ → ℕ → Segment → List ℕ
+withRow ws i x = take (4 * i) ws ++ (wordsOf (x ∷ []) ++ drop (4 * i + 4) ws)
+
+-- A part of a table in which a row is opened: its first n words stand one row higher, over the row after them; the first row stays as it was.
+abbrev pub opened : ℕ → List ℕ → List ℕ
+opened n ws = take 4 ws ++ (take n ws ++ drop (n + 4) ws)
+
+-- A part of a table in which its first row is closed: the n words after that row stand one row lower, and the row that they leave is zero.
+abbrev pub closed : ℕ → List ℕ → List ℕ
+closed n ws = take n (drop 4 ws) ++ (replicate 4 0 ++ drop (n + 4) ws)
+
+-- A table whose first n rows were in use has these rows in use instead: a row that falls out of use is zero, and every word after both stays.
+abbrev pub withRows : ℕ → List ℕ → List Segment → List ℕ
+withRows n ws xs = wordsOf xs ++ (replicate (4 * (n - length xs)) 0 ++ drop (4 * max n (length xs)) ws)
+
+-- A call that is handed a table with n rows in use leaves these rows in it, and answers how many they are.
+pub record Rewritten (n : ℕ) (before : List ℕ) (xs : List Segment) (m : ℕ) (after : List ℕ) : Type 0 where
+  pub rows : m ≡ length xs
+  pub words : after ≡ withRows n before xs

@@ -1,1 +1,418 @@
-// The table: rows in a lent slice of words.
+// The table: rows in a lent slice of words. No function here keeps anything: the caller hands in how many rows are in use.
+ghost use mathlib.Core.Path.{_≡_};
+ghost use mathlib.Core.Bool.{true};
+ghost use mathlib.Core.List.{List, _∷_, [], _++_};
+ghost use Prim.Native.Nat.{ℕ, _+_, _-_, _*_, _%_, _<_, _≤_, max};
+ghost use lib.Dec.{eqb};
+ghost use lib.ListN.{length, drop, replicate};
+ghost use Rattle.model.specs.Choose.{every};
+ghost use Rattle.model.specs.Quantities.{Config, isAlignment};
+ghost use Rattle.model.specs.Allocation.{granulesFor, granulesOf};
+ghost use Rattle.model.specs.Arena.{written};
+ghost use Rattle.model.specs.SegmentMap.{freeRun, gap};
+ghost use Rattle.segments.specs.Rows.{wordsOf, segmentAt, segmentsIn, withRow, opened, closed, withRows, Rewritten};
+ghost use Rattle.segments.specs.Tiling.{isMap};
+ghost use Rattle.segments.specs.Search.{padding, RowOf, Found};
+ghost use Rattle.segments.specs.Counting.{followsOf, countedOf, brokenOf, freeOf, liveOf, Bounded, Counted};
+ghost use Rattle.segments.specs.Changes.{replaced, inserted, removed, cut, joined, released};
+use model::Segment;
+use model::granules_for;
+
+// Where first fit found room: the row that has it, and the start granule.
+pub enum Fit {
+    At { row: usize, start: u32 },
+    Nothing,
+}
+
+// What a pass over the rows has counted, in granules: whether the rows so far may stand in a map, where they end, whether the last is free,
+// what the live blocks hold, the longest free run, and the live blocks of owners 1 to 8 and what those hold.
+pub struct Census {
+    pub ok: bool,
+    pub end: u32,
+    pub after_free: bool,
+    pub used: u32,
+    pub longest: u32,
+    pub blocks: [u32; 8],
+    pub held: [u32; 8],
+}
+
+// The segment in row i.
+pub fn row(table: &[u32], i: usize) -> Segment
+    requires { do ⌜ 4 * i + 4 ≤ (← ⟦table.len()⟧) ⌝ }
+    ensures { λ r. ⌜ r ≡ segmentAt (now (table .entry)) i ⌝ }
+{
+    Segment {
+        start: table[4 * i],
+        length: table[4 * i + 1],
+        owner: table[4 * i + 2],
+        requested: table[4 * i + 3],
+    }
+}
+
+// Row i set.
+pub fn put_row(table: &mut [u32], i: usize, s: Segment)
+    requires { do ⌜ 4 * i + 4 ≤ (← ⟦table.len()⟧) ⌝ }
+    ensures { λ r. ⌜ now (table .exit) ≡ withRow (now (table .entry)) i s ⌝ }
+{
+    table[4 * i] = s.start;
+    table[4 * i + 1] = s.length;
+    table[4 * i + 2] = s.owner;
+    table[4 * i + 3] = s.requested;
+}
+
+// The first n words of a part moved up by one row; the first row stays, for the caller to set.
+fn open_row(part: &mut [u32], n: usize)
+    requires { do ⌜ n + 4 ≤ (← ⟦part.len()⟧) ⌝ }
+    ensures { λ r. ⌜ now (part .exit) ≡ opened n (now (part .entry)) ⌝ }
+{
+    let mut i = n;
+    while 0 < i {
+        i -= 1;
+        part[i + 4] = part[i];
+    }
+}
+
+// The n words after the first row of a part moved down by one row, and the row that they leave set to zero.
+fn close_row(part: &mut [u32], n: usize)
+    requires { do ⌜ n + 4 ≤ (← ⟦part.len()⟧) ⌝ }
+    ensures { λ r. ⌜ now (part .exit) ≡ closed n (now (part .entry)) ⌝ }
+{
+    let mut i: usize = 0;
+    while i < n {
+        part[i] = part[i + 4];
+        i += 1;
+    }
+    part[n] = 0;
+    part[n + 1] = 0;
+    part[n + 2] = 0;
+    part[n + 3] = 0;
+}
+
+// A row more in use, at row i.
+pub fn insert_row(table: &mut [u32], rows: usize, i: usize, s: Segment)
+    requires { do ⌜ (i ≤ rows) × (4 * rows + 4 ≤ (← ⟦table.len()⟧)) ⌝ }
+    ensures { λ r. ⌜ now (table .exit) ≡ withRows rows (now (table .entry)) (inserted i s (segmentsIn rows (now (table .entry)))) ⌝ }
+{
+    let at = 4 * i;
+    let count = 4 * (rows - i);
+    open_row(&mut table[at..], count);
+    put_row(table, i, s);
+}
+
+// A row less in use: row i.
+pub fn remove_row(table: &mut [u32], rows: usize, i: usize)
+    requires { do ⌜ (i < rows) × (4 * rows ≤ (← ⟦table.len()⟧)) ⌝ }
+    ensures { λ r. ⌜ now (table .exit) ≡ withRows rows (now (table .entry)) (removed i (segmentsIn rows (now (table .entry)))) ⌝ }
+{
+    let at = 4 * i;
+    let count = 4 * (rows - i - 1);
+    close_row(&mut table[at..], count);
+}
+
+// The row that has a granule, by halving.
+pub fn row_of(table: &[u32], rows: usize, granule: u32) -> usize
+    requires { do ⌜ (1 ≤ rows) × (4 * rows ≤ (← ⟦table.len()⟧)) ⌝ }
+    ensures { λ r. ⌜ RowOf rows granule (now (table .entry)) r ⌝ }
+{
+    let mut low: usize = 0;
+    let mut high = rows;
+    while 1 < high - low {
+        let middle = low + (high - low) / 2;
+        let s = row(table, middle);
+        if s.start <= granule {
+            low = middle;
+        } else {
+            high = middle;
+        }
+    }
+    low
+}
+
+// The granules from `start` to the next multiple of `unit`.
+fn padding_of(start: u32, unit: u32) -> u32
+    requires { ⌜ 1 ≤ unit ⌝ }
+    ensures { λ r. ⌜ (r ≡ padding unit start) × (r < unit) ⌝ }
+{
+    (unit - start % unit) % unit
+}
+
+// First fit: the first free row with room for `need` granules on a boundary of `align` bytes.
+pub fn first_fit(table: &[u32], rows: usize, need: u32, align: u32) -> Fit
+    requires { do ⌜ (4 * rows ≤ (← ⟦table.len()⟧)) × (1 ≤ need) × (need + align ≤ 4294967295) × (isAlignment align ≡ true) ⌝ }
+    ensures { λ r. ⌜ ((c : Config) → c .granules ≤ 65536 → isMap c (segmentsIn rows (now (table .entry))) ≡ true → Found c rows need align (now (table .entry)) r) ⌝ }
+{
+    let unit = align / 16;
+    let mut found = Fit::Nothing;
+    let mut i: usize = 0;
+    while i < rows {
+        let s = row(table, i);
+        if s.owner == 0 {
+            let skipped = padding_of(s.start, unit);
+            if skipped + need <= s.length {
+                found = Fit::At {
+                    row: i,
+                    start: std::num::wrapping_add_u32(s.start, skipped),
+                };
+                break;
+            }
+        }
+        i += 1;
+    }
+    found
+}
+
+// The row may follow those counted.
+fn follows(k: Census, s: Segment, granules: u32) -> bool
+    requires { ⌜ Bounded granules k ⌝ }
+    ensures { λ r. ⌜ r ≡ followsOf granules k s ⌝ }
+{
+    if s.start != k.end {
+        return false;
+    }
+    if s.length < 1 {
+        return false;
+    }
+    if granules - k.end < s.length {
+        return false;
+    }
+    if s.owner == 0 {
+        if k.after_free {
+            return false;
+        }
+        return s.requested == 0;
+    }
+    if 8 < s.owner {
+        return false;
+    }
+    granules_for(s.requested) == s.length
+}
+
+// The rows counted are no map.
+fn broken(mut k: Census) -> Census
+    ensures { λ r. ⌜ r ≡ brokenOf k ⌝ }
+{
+    k.ok = false;
+    k
+}
+
+// A free row counted.
+fn with_free(mut k: Census, length: u32) -> Census
+    requires { ⌜ k .end + length ≤ 4294967295 ⌝ }
+    ensures { λ r. ⌜ r ≡ freeOf k length ⌝ }
+{
+    k.end += length;
+    k.after_free = true;
+    k.longest = larger(k.longest, length);
+    k
+}
+
+// A live block counted.
+fn with_block(mut k: Census, owner: u32, length: u32) -> Census
+    requires { ⌜ (1 ≤ owner) × (owner ≤ 8) × (1 ≤ length) × (k .end + length ≤ 4294967295) × Bounded (k .end) k ⌝ }
+    ensures { λ r. ⌜ r ≡ liveOf k owner length ⌝ }
+{
+    let i = (owner - 1) as usize;
+    let mut blocks = k.blocks;
+    let mut held = k.held;
+    blocks[i] += 1;
+    held[i] += length;
+    k.end += length;
+    k.after_free = false;
+    k.used += length;
+    k.blocks = blocks;
+    k.held = held;
+    k
+}
+
+fn larger(a: u32, b: u32) -> u32
+    ensures { λ r. ⌜ r ≡ max a b ⌝ }
+{
+    if a < b { b } else { a }
+}
+
+// One row more counted.
+fn counted(k: Census, s: Segment, granules: u32) -> Census
+    requires { ⌜ Bounded granules k ⌝ }
+    ensures { λ r. ⌜ (r ≡ countedOf granules k s) × Bounded granules r ⌝ }
+{
+    if !k.ok {
+        return k;
+    }
+    if !follows(k, s, granules) {
+        return broken(k);
+    }
+    if s.owner == 0 {
+        return with_free(k, s.length);
+    }
+    with_block(k, s.owner, s.length)
+}
+
+// One pass over the rows that counts everything.
+pub fn take_census(table: &[u32], rows: usize, granules: u32) -> Census
+    requires { do ⌜ 4 * rows ≤ (← ⟦table.len()⟧) ⌝ }
+    ensures { λ r. ⌜ ((c : Config) → c .granules ≡ granules → Counted c rows (now (table .entry)) r) ⌝ }
+{
+    let mut k = Census {
+        ok: true,
+        end: 0,
+        after_free: false,
+        used: 0,
+        longest: 0,
+        blocks: [0; 8],
+        held: [0; 8],
+    };
+    let mut i: usize = 0;
+    while i < rows {
+        let s = row(table, i);
+        k = counted(k, s, granules);
+        i += 1;
+    }
+    if k.end != granules {
+        return broken(k);
+    }
+    k
+}
+
+// A free run as a segment.
+fn free_run(start: u32, length: u32) -> Segment
+    ensures { λ r. ⌜ r ≡ freeRun start length ⌝ }
+{
+    Segment {
+        start: start,
+        length: length,
+        owner: 0,
+        requested: 0,
+    }
+}
+
+// The rows that the granules from `from` up to `to` take: one if there are any.
+fn gap_rows(from: u32, to: u32) -> usize
+    ensures { λ r. ⌜ r ≡ length (gap from to) ⌝ }
+{
+    if from < to { 1 } else { 0 }
+}
+
+// The rows that a row becomes when it is cut for a block.
+pub fn pieces(s: Segment, block: Segment) -> usize
+    requires { ⌜ (block .start + block .length ≤ 4294967295) × (s .start + s .length ≤ 4294967295) ⌝ }
+    ensures { λ r. ⌜ r ≡ length (cut s block) ⌝ }
+{
+    let before = gap_rows(s.start, block.start);
+    let after = gap_rows(block.start + block.length, s.start + s.length);
+    before + 1 + after
+}
+
+// A free row at row i for the granules from `from` up to `to`, if there are any; answers the rows in use.
+fn insert_gap(table: &mut [u32], rows: usize, i: usize, from: u32, to: u32) -> usize
+    requires { do ⌜ (i ≤ rows) × (4 * (rows + length (gap from to)) ≤ (← ⟦table.len()⟧)) ⌝ }
+    ensures { λ r. ⌜ Rewritten rows (now (table .entry)) (replaced i 0 (gap from to) (segmentsIn rows (now (table .entry)))) r (now (table .exit)) ⌝ }
+{
+    if from < to {
+        let run = free_run(from, to - from);
+        insert_row(table, rows, i, run);
+        return rows + 1;
+    }
+    rows
+}
+
+// Row i cut for a block that stands in it; answers the rows in use.
+pub fn split_row(table: &mut [u32], rows: usize, i: usize, block: Segment) -> usize
+    requires { do
+      ⌜ (i < rows)
+          × (block .start + block .length ≤ 4294967295)
+          × (segmentAt (now table) i .start + segmentAt (now table) i .length ≤ 4294967295)
+          × (4 * (rows - 1 + length (cut (segmentAt (now table) i) block)) ≤ (← ⟦table.len()⟧)) ⌝ }
+    ensures { λ r. ⌜ Rewritten rows (now (table .entry)) (replaced i 1 (cut (segmentAt (now (table .entry)) i) block) (segmentsIn rows (now (table .entry)))) r (now (table .exit)) ⌝ }
+{
+    let s = row(table, i);
+    let end = s.start + s.length;
+    let block_end = block.start + block.length;
+    put_row(table, i, block);
+    let n = insert_gap(table, rows, i + 1, block_end, end);
+    insert_gap(table, n, i, s.start, block.start)
+}
+
+// Rows i and i + 1 made one if both are free; answers the rows in use.
+pub fn join_rows(table: &mut [u32], rows: usize, i: usize) -> usize
+    requires { do ⌜ (i < rows) × (4 * rows ≤ (← ⟦table.len()⟧)) × (granulesOf (segmentsIn rows (now table)) ≤ 4294967295) ⌝ }
+    ensures { λ r. ⌜ Rewritten rows (now (table .entry)) (joined i (segmentsIn rows (now (table .entry)))) r (now (table .exit)) ⌝ }
+{
+    if rows - i < 2 {
+        return rows;
+    }
+    let s = row(table, i);
+    if s.owner != 0 {
+        return rows;
+    }
+    let next = row(table, i + 1);
+    if next.owner != 0 {
+        return rows;
+    }
+    let run = free_run(s.start, s.length + next.length);
+    put_row(table, i, run);
+    remove_row(table, rows, i + 1);
+    rows - 1
+}
+
+// Row i made free and joined with its free neighbours; answers the rows in use.
+pub fn release_row(table: &mut [u32], rows: usize, i: usize) -> usize
+    requires { do ⌜ (i < rows) × (4 * rows ≤ (← ⟦table.len()⟧)) × (granulesOf (segmentsIn rows (now table)) ≤ 4294967295) ⌝ }
+    ensures { λ r. ⌜ Rewritten rows (now (table .entry)) (released i (segmentsIn rows (now (table .entry)))) r (now (table .exit)) ⌝ }
+{
+    let s = row(table, i);
+    let run = free_run(s.start, s.length);
+    put_row(table, i, run);
+    let n = join_rows(table, rows, i);
+    if 0 < i {
+        return join_rows(table, n, i - 1);
+    }
+    n
+}
+
+// The words from a place on are all zero.
+pub fn zero_from(table: &[u32], from: usize) -> bool
+    ensures { λ r. ⌜ r ≡ every (eqb 0) (drop from (now (table .entry))) ⌝ }
+{
+    let mut i = from;
+    while i < table.len() {
+        if table[i] != 0 {
+            return false;
+        }
+        i += 1;
+    }
+    true
+}
+
+// Every word set to zero.
+fn zero_words(table: &mut [u32])
+    ensures { λ r. ⌜ now (table .exit) ≡ replicate (length (now (table .entry))) 0 ⌝ }
+{
+    let mut i: usize = 0;
+    while i < table.len() {
+        table[i] = 0;
+        i += 1;
+    }
+}
+
+// One free row over the whole arena, and every other word zero.
+pub fn reset(table: &mut [u32], granules: u32)
+    requires { do ⌜ 4 ≤ (← ⟦table.len()⟧) ⌝ }
+    ensures { λ r. ⌜ now (table .exit) ≡ wordsOf (freeRun 0 granules ∷ []) ++ replicate (length (now (table .entry)) - 4) 0 ⌝ }
+{
+    zero_words(table);
+    let run = free_run(0, granules);
+    put_row(table, 0, run);
+}
+
+// A run of bytes set to one value.
+pub fn fill(bytes: &mut [u8], from: usize, count: usize, value: u8)
+    requires { do ⌜ from + count ≤ (← ⟦bytes.len()⟧) ⌝ }
+    ensures { λ r. ⌜ now (bytes .exit) ≡ written from (replicate count value) (now (bytes .entry)) ⌝ }
+{
+    let end = from + count;
+    let mut i = from;
+    while i < end {
+        bytes[i] = value;
+        i += 1;
+    }
+}

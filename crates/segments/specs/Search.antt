@@ -1,0 +1,51 @@
+-- What is looked for in the rows: the row of a granule, and the place that first fit names.
+-- Assumes nothing.
+use Prim.Native.Nat.{ℕ, _+_, _-_, _%_, _≤_, _<_}
+use mathlib.Core.Path.{_≡_}
+use mathlib.Core.Bool.{Bool, true}
+use mathlib.Core.List.{List}
+use mathlib.Core.Option.{Option, none, some}
+use lib.Dec.{leb, ltb}
+use Rattle.model.specs.Choose.{both}
+use Rattle.model.specs.Quantities.{Config}
+use Rattle.model.specs.Allocation.{lowestStart}
+use Rattle.segments.specs.Rows.{segmentAt, segmentsIn, blocksIn}
+use Rattle.segments.specs.Tiling.{tiles, isMap}
+use Rattle.model.specs.declared.Segment.{Segment}
+use Rattle.segments.specs.declared.Fit.{Fit}
+use Rattle.segments.specs.declared.Fit.the-variants as fit
+
+-- A granule is in a segment.
+abbrev pub hasGranule : ℕ → Segment → Bool
+hasGranule x s = both (leb (s .start) x) (ltb x (s .start + s .length))
+
+-- A row of n, in use, and the one with granule x if the rows tile an arena that has x.
+pub record RowOf (n x : ℕ) (ws : List ℕ) (row : ℕ) : Type 0 where
+  pub inUse : row < n
+  pub has : (e : ℕ) → tiles 0 e (segmentsIn n ws) ≡ true → x < e → hasGranule x (segmentAt ws row) ≡ true
+
+-- From s it is so many granules to the next multiple of m, none if s is one.
+abbrev pub padding : ℕ → ℕ → ℕ
+padding m s = (m - s % m) % m
+
+-- The start of a fit.
+abbrev pub startOf : Fit → Option ℕ
+startOf (fit.At row start) = some start
+startOf fit.Nothing = none
+
+-- A row in use is free, and has g granules from s on.
+pub record Room (n g : ℕ) (ws : List ℕ) (row s : ℕ) : Type 0 where
+  pub inUse : row < n
+  pub free : segmentAt ws row .owner ≡ 0
+  pub from : segmentAt ws row .start ≤ s
+  pub upTo : s + g ≤ segmentAt ws row .start + segmentAt ws row .length
+
+-- The row of a fit has the room.
+abbrev pub HasRoom : ℕ → ℕ → List ℕ → Fit → Type 0
+HasRoom n g ws (fit.At row start) = Room n g ws row start
+HasRoom n g ws fit.Nothing = Unit {0}
+
+-- What first fit finds in n rows that are a map: the lowest start that serves g granules on a boundary of a bytes beside the live blocks, and its row.
+pub record Found (c : Config) (n g a : ℕ) (ws : List ℕ) (found : Fit) : Type 0 where
+  pub lowest : lowestStart c (blocksIn n ws) g a ≡ startOf found
+  pub room : HasRoom n g ws found
