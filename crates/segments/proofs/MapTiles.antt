@@ -3,17 +3,17 @@
 use mathlib.Core.Path.{_≡_, refl, ap, subst}
 use mathlib.Core.Bool.{true, false}
 use mathlib.Core.List.{List, [], _∷_, _++_}
-use Prim.Native.Nat.{ℕ, _+_, _*_, _-_, _≤_}
+use Prim.Native.Nat.{ℕ, _+_, _*_, _-_, _≤_, _<_}
 use native.Mathlib.Omega.{arith}
 use lib.Dec.{ltb, eqb}
 use lib.ListN.{length, length-append}
 use borrow.Author.Tests.{eq-eqb, ne-eqb, le-leb}
 use Rattle.model.specs.Choose.{every, only}
 use Rattle.model.specs.Quantities.{Config}
-use Rattle.model.specs.SegmentMap.{isLive, freeRun, gap, mapFrom}
+use Rattle.model.specs.SegmentMap.{isLive, freeRun, gap, mapFrom, mapOf}
 use Rattle.model.proofs.Choosing.{split, tests, both-true, every-append, only-append}
 use Rattle.model.proofs.Ordered.{Live, Ordered, long}
-use Rattle.segments.specs.Tiling.{tiles, wellFormed, noTwoFree}
+use Rattle.segments.specs.Tiling.{tiles, wellFormed, noTwoFree, isMap}
 use Rattle.model.specs.declared.Segment.{Segment}
 
 pub gap-free : (s e : ℕ) → only isLive (gap s e) ≡ []
@@ -36,6 +36,13 @@ tiles-gap s t e ss h r =
     (λ q. let z : s + (t - s) ≡ t = omega arith in rw q (tiles-cons s e (freeRun s (t - s)) ss refl (omega tests) (rw z r)))
     (λ q. let z : s ≡ t = omega tests in rw q (rw z r))
 
+-- a free run from s up to e, and the gap there, tile
+pub run-tiles : (s e : ℕ) → s < e → tiles s e (freeRun s (e - s) ∷ []) ≡ true
+run-tiles s e h = tiles-cons s e (freeRun s (e - s)) [] refl (omega arith) (eq-eqb (s + (e - s)) e (omega arith))
+
+pub gap-tiles : (s e : ℕ) → s ≤ e → tiles s e (gap s e) ≡ true
+gap-tiles s e h = split (ltb s e) (λ q. rw q (run-tiles s e (omega tests))) (λ q. rw q (eq-eqb s e (omega tests)))
+
 module _ (c : Config) where
   abbrev from : ℕ → List Segment → List Segment
   from s bs = mapFrom (c .granules) s bs
@@ -51,10 +58,7 @@ module _ (c : Config) where
 
   -- the map tiles the arena
   pub tiles-map : (s : ℕ) (bs : List Segment) → Ordered c s bs → tiles s (c .granules) (from s bs) ≡ true
-  tiles-map s [] o =
-      split (ltb s (c .granules))
-      (λ q. rw q (tiles-cons s (c .granules) (freeRun s (c .granules - s)) [] refl (omega tests) (eq-eqb (s + (c .granules - s)) (c .granules) (omega arith))))
-      (λ q. rw q (eq-eqb s (c .granules) (omega tests)))
+  tiles-map s [] o = gap-tiles s (c .granules) o
   tiles-map s (b ∷ bs) o =
       tiles-gap s (b .start) (c .granules) (b ∷ from (b .start + b .length) bs) (o .0)
       (tiles-cons (b .start) (c .granules) b (from (b .start + b .length) bs) refl (long c b (o .1)) (tiles-map (b .start + b .length) bs (o .2)))
@@ -83,3 +87,7 @@ module _ (c : Config) where
   map-apart s (b ∷ bs) o =
       gap-first s (b .start) b (from (b .start + b .length) bs) (o .1)
       (live-first b (from (b .start + b .length) bs) (o .1) (map-apart (b .start + b .length) bs (o .2)))
+
+  -- The map of a set of blocks is a map.
+  pub is-map : (bs : List Segment) → Ordered c 0 bs → isMap c (mapOf c bs) ≡ true
+  is-map bs o = both-true _ _ (tiles-map 0 bs o) (both-true _ _ (map-formed 0 bs o) (map-apart 0 bs o))

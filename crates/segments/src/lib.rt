@@ -287,7 +287,7 @@ fn free_run(start: u32, length: u32) -> Segment
 
 // The rows that the granules from `from` up to `to` take: one if there are any.
 fn gap_rows(from: u32, to: u32) -> usize
-    ensures { λ r. ⌜ r ≡ length (gap from to) ⌝ }
+    ensures { λ r. ⌜ (r ≡ length (gap from to)) × (r ≤ 1) ⌝ }
 {
     if from < to { 1 } else { 0 }
 }

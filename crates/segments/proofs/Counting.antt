@@ -1,0 +1,121 @@
+-- One row counted: what the count is then, and that no figure exceeds the granules passed.
+-- Assumes nothing.
+use mathlib.Core.Path.{_≡_, refl, sym, subst}
+use mathlib.Core.Bool.{true, false}
+use mathlib.Core.List.{List, [], _∷_}
+use Prim.Native.Nat.{ℕ, zero, suc, _+_, _-_, _≤_, _<_}
+use native.Mathlib.Omega.{arith}
+use lib.Dec.{eqb}
+use lib.ListN.{length, getD, set, replicate, length-set}
+use lib.Seq.{getD-set-same, getD-set-other}
+use borrow.Author.Tests.{eqb-true, ne-eqb, eq-eqb}
+use Rattle.model.specs.SegmentMap.{isFree}
+use Rattle.model.proofs.Choosing.{split, tests}
+use Rattle.segments.specs.Counting.{followsOf, brokenOf, freeOf, liveOf, countedOf, Bounded}
+use Rattle.segments.proofs.Following.{Follows, follows-true}
+use Rattle.model.specs.declared.Segment.{Segment}
+use Rattle.segments.specs.declared.Census.{Census}
+
+-- The count before the first row.
+abbrev pub noneCounted : Census
+noneCounted = record { ok = true; end = 0; «after_free» = false; used = 0; longest = 0; blocks = replicate 8 0; held = replicate 8 0 }
+
+-- The count with more rows.
+abbrev pub countAll : ℕ → Census → List Segment → Census
+countAll g k [] = k
+countAll g k (x ∷ xs) = countAll g (countedOf g k x) xs
+
+-- Figures of which one is raised by v are bounded by n more, if v is.
+raised : (l : List ℕ) (j v e n : ℕ) → j < length l → v ≤ n → ((i : ℕ) → getD l i 0 ≤ e) → (i : ℕ) → getD (set l j (getD l j 0 + v)) i 0 ≤ e + n
+raised l j v e n hj hv h i =
+    split (eqb i j)
+    (λ q. rw (eqb-true i j q, getD-set-same l j (getD l j 0 + v) 0 hj) (omega (arith, h j)))
+    (λ q. rw (getD-set-other l j i (getD l j 0 + v) 0 (λ z. omega tests)) (omega (arith, h i)))
+
+module _ (g : ℕ) (k : Census) (b : Bounded g k) where
+  -- The granules passed bound the figures as the arena's do.
+  pub passed-bounded : Bounded (k .end) k
+  passed-bounded = record { end = omega arith; used = b .used; longest = b .longest; blocks = b .blocks; held = b .held; blocksEight = b .blocksEight; heldEight = b .heldEight }
+
+  -- A count that is broken has the same figures.
+  pub broken-bounded : Bounded g (brokenOf k)
+  broken-bounded = record { end = b .end; used = b .used; longest = b .longest; blocks = b .blocks; held = b .held; blocksEight = b .blocksEight; heldEight = b .heldEight }
+
+module _ (g : ℕ) (k : Census) (x : Segment) where
+  -- After a row that did not follow, the count stays as it is.
+  pub counted-not : k .ok ≡ false → countedOf g k x ≡ k
+  unfolding countedOf
+  counted-not q = rw q
+
+  -- A row that does not follow breaks the count.
+  pub counted-broken : k .ok ≡ true → followsOf g k x ≡ false → countedOf g k x ≡ brokenOf k
+  unfolding countedOf followsOf
+  counted-broken q f = rw (q, f)
+
+  -- A free row that follows is counted as one.
+  pub counted-free : k .ok ≡ true → followsOf g k x ≡ true → x .owner ≡ 0 → countedOf g k x ≡ freeOf k (x .length)
+  unfolding countedOf followsOf
+  counted-free q f o = rw (q, f, eq-eqb (x .owner) 0 o)
+
+  -- A live row that follows is counted as its owner's.
+  pub counted-live : k .ok ≡ true → followsOf g k x ≡ true → (x .owner ≡ 0 → ⊥) → countedOf g k x ≡ liveOf k (x .owner) (x .length)
+  unfolding countedOf followsOf
+  counted-live q f o = rw (q, f, ne-eqb (x .owner) 0 o)
+
+  -- What holds in each of the four cases holds of the count with the row.
+  pub by-cases : (P : Census → Type 0) → (k .ok ≡ false → P k) → (followsOf g k x ≡ false → P (brokenOf k))
+      → (Follows g k x → isFree x ≡ true → P (freeOf k (x .length))) → (Follows g k x → isFree x ≡ false → P (liveOf k (x .owner) (x .length)))
+      → P (countedOf g k x)
+  by-cases P n b f l =
+      split (k .ok)
+      (λ q. split (followsOf g k x)
+      (λ w. split (isFree x)
+      (λ o. subst P (sym (counted-free q w (omega tests))) (f (follows-true g k x w) o))
+      (λ o. subst P (sym (counted-live q w (λ z. omega tests))) (l (follows-true g k x w) o)))
+      (λ w. subst P (sym (counted-broken q w)) (b w)))
+      (λ q. subst P (sym (counted-not q)) (n q))
+
+  module _ (b : Bounded g k) where
+    free-bounded : Follows g k x → Bounded g (freeOf k (x .length))
+    free-bounded f =
+        record {
+          end = omega arith;
+          used = omega arith;
+          longest = omega arith;
+          blocks = λ i. omega (arith, b .blocks i);
+          held = λ i. omega (arith, b .held i);
+          blocksEight = b .blocksEight;
+          heldEight = b .heldEight;
+        }
+
+    live-bounded : Follows g k x → isFree x ≡ false → Bounded g (liveOf k (x .owner) (x .length))
+    live-bounded f o =
+        record {
+          end = omega arith;
+          used = omega arith;
+          longest = omega arith;
+          blocks = raised (k .blocks) (x .owner - 1) 1 (k .end) (x .length) (omega tests) (f .some) (b .blocks);
+          held = raised (k .held) (x .owner - 1) (x .length) (k .end) (x .length) (omega tests) (omega arith) (b .held);
+          blocksEight = rw length-set (b .blocksEight);
+          heldEight = rw length-set (b .heldEight);
+        }
+
+    -- The count with the row is bounded.
+    pub counted-bounded : Bounded g (countedOf g k x)
+    counted-bounded = by-cases (Bounded g) (λ q. b) (λ w. broken-bounded g k b) (λ f o. free-bounded f) live-bounded
+
+    -- And so is what is equal to it.
+    pub counted-so : (r : Census) → r ≡ countedOf g k x → (r ≡ countedOf g k x) × Bounded g r
+    counted-so r e = (e, subst (Bounded g) (sym e) counted-bounded)
+
+-- Each of so many zeros is 0.
+pub none-held : (i n : ℕ) → _≡_ {A = ℕ} (getD (replicate n 0) i 0) 0
+none-held i zero = refl
+none-held zero (suc n) = refl
+none-held (suc i) (suc n) = none-held i n
+
+-- Before the first row each figure is 0.
+pub none-bounded : (g : ℕ) → Bounded g noneCounted
+none-bounded g =
+    let z : (i : ℕ) → getD (replicate 8 0) i 0 ≤ 0 = λ i. omega (arith, none-held i 8) in
+    record { end = omega arith; used = omega arith; longest = omega arith; blocks = z; held = z; blocksEight = refl; heldEight = refl }

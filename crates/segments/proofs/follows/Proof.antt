@@ -1,0 +1,49 @@
+-- `segments::follows` meets its contract: each early return is a row that cannot follow, and at the last two only the bytes requested are left to test.
+-- Assumes nothing.
+use native.Mathlib.Omega.{arith}
+use borrow.Author.Needs.{needs}
+use Rattle.model.proofs.Choosing.{clash}
+use Rattle.segments.proofs.Following.{refused, follows-free, follows-live}
+use Rattle.segments.proofs.follows.Statement.{statement}
+use Rattle.segments.proofs.follows.Tie as tie
+
+returns : tie.Need-returns
+returns c = refused _ _ _ (λ f. omega arith)
+
+returns-2 : tie.Need-returns-2
+returns-2 c = refused _ _ _ (λ f. omega arith)
+
+sub-if3 : tie.Need-sub-if3
+sub-if3 c = search needs
+
+returns-3 : tie.Need-returns-3
+returns-3 c = refused _ _ _ (λ f. omega arith)
+
+returns-4 : tie.Need-returns-4
+returns-4 c = refused _ _ _ (λ f. clash _ (c .if5 .taken) (f .touch (omega arith)))
+
+returns-5 : tie.Need-returns-5
+returns-5 c = follows-free _ _ _ (omega arith) (omega arith) (omega arith) (omega arith) (c .before .if5 .left)
+
+returns-6 : tie.Need-returns-6
+returns-6 c = refused _ _ _ (λ f. omega arith)
+
+granules-for-requires : tie.Need-granules-for-requires
+granules-for-requires c κs = search needs
+
+returns-7 : tie.Need-returns-7
+returns-7 c = follows-live _ _ _ (omega arith) (omega arith) (omega arith) _ (λ z. omega arith) (omega arith) (c .before .granules-for .ensures)
+
+pub follows-spec : {M : Type 1} → statement M
+follows-spec =
+    tie.close
+    (tie.spec
+    returns
+    returns-2
+    sub-if3
+    returns-3
+    returns-4
+    returns-5
+    returns-6
+    granules-for-requires
+    returns-7)
