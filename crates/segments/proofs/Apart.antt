@@ -3,7 +3,7 @@
 use mathlib.Core.Path.{_≡_, refl, ap}
 use mathlib.Core.Bool.{Bool, true, false, not}
 use mathlib.Core.List.{List, [], _∷_, _++_}
-use lib.Dec.{ltb, eqb}
+use lib.Dec.{ltb}
 use Prim.Native.Nat.{ℕ}
 use borrow.Author.Tests.{not-true}
 use Rattle.model.specs.Choose.{both}
@@ -15,11 +15,11 @@ use Rattle.model.specs.declared.Segment.{Segment}
 -- no two free segments touch, after one that is free or not
 abbrev pub apartFrom : Bool → List Segment → Bool
 apartFrom b [] = true
-apartFrom b (x ∷ xs) = both (not (both b (eqb (x .owner) 0))) (apartFrom (eqb (x .owner) 0) xs)
+apartFrom b (x ∷ xs) = both (not (both b (isFree x))) (apartFrom (isFree x) xs)
 
-pub apart-from : (x : Segment) (xs : List Segment) → noTwoFree (x ∷ xs) ≡ apartFrom (eqb (x .owner) 0) xs
+pub apart-from : (x : Segment) (xs : List Segment) → noTwoFree (x ∷ xs) ≡ apartFrom (isFree x) xs
 apart-from x [] = refl
-apart-from x (y ∷ ys) = ap (both (not (both (eqb (x .owner) 0) (eqb (y .owner) 0)))) (apart-from y ys)
+apart-from x (y ∷ ys) = ap (both (not (both (isFree x) (isFree y)))) (apart-from y ys)
 
 pub apart-all : (xs : List Segment) → noTwoFree xs ≡ apartFrom false xs
 apart-all [] = refl

@@ -1,7 +1,7 @@
 -- What the test of one row says.
 -- Assumes nothing.
 use mathlib.Core.Path.{_≡_, sym, _∙_}
-use mathlib.Core.Bool.{Bool, true, false, not}
+use mathlib.Core.Bool.{true, false, not}
 use Prim.Native.Nat.{ℕ, _+_, _*_, _-_, _≤_}
 use native.Mathlib.Omega.{arith}
 use lib.Dec.{leb, eqb}
@@ -10,15 +10,11 @@ use Rattle.model.specs.Choose.{both}
 use Rattle.model.specs.Quantities.{within}
 use Rattle.model.specs.Allocation.{granulesFor}
 use Rattle.model.specs.SegmentMap.{isFree}
-use Rattle.model.proofs.Choosing.{split, tests, clash, parts, both-true}
+use Rattle.model.proofs.Choosing.{split, tests, same-test, parts, both-true}
 use Rattle.segments.specs.Tiling.{requestedFits, wellFormed}
 use Rattle.segments.specs.Counting.{ofGranules, followsOf}
 use Rattle.model.specs.declared.Segment.{Segment}
 use Rattle.segments.specs.declared.Census.{Census}
-
--- Two tests that hold together are equal.
-same-test : (a b : Bool) → (a ≡ true → b ≡ true) → (b ≡ true → a ≡ true) → a ≡ b
-same-test a b f g = split b (λ q. g q ∙ sym q) (λ q. split a (λ p. absurd (clash b (f p) q)) (λ p. p ∙ sym q))
 
 -- For k granules 16 (k - 1) + 1 to 16 k bytes are requested exactly if those bytes need k granules.
 pub bytes-fit : (k r : ℕ) → 1 ≤ k → within (16 * (k - 1) + 1) (16 * k) r ≡ eqb (granulesFor r) k

@@ -1,15 +1,12 @@
 -- Words moved by one row.
 -- Assumes nothing.
-use mathlib.Core.Path.{_≡_, refl, sym, ap, _∙_}
-use mathlib.Core.List.{List, [], _∷_, _++_, append-assoc, append-nil}
-use Prim.Native.Nat.{ℕ, zero, suc, _+_, _*_, _-_, _≤_, _<_}
+use mathlib.Core.Path.{_≡_, sym, ap, _∙_}
+use mathlib.Core.List.{List, [], _∷_, _++_, append-assoc}
+use Prim.Native.Nat.{ℕ, suc, _+_, _≤_, _<_}
 use native.Mathlib.Omega.{arith}
 use native.Mathlib.Numerals.{add-one}
 use lib.ListN.{length, getD, set, take, drop, length-append, length-take, length-drop, take-append-drop, drop-of-length-le, List·getD-append}
-use borrow.Rule.Slice.PartMut.{midOf, putMid}
-use Rattle.segments.specs.Rows.{closed}
-use Rattle.model.specs.declared.Segment.{Segment}
-use lib.Seq.{take-all, drop-at, take-suc, drop-cons, set-at, getD-take, getD-drop, append-snoc, length-take-le, sets-eq, getD-append-add, take-at, drop-append-add, drop-drop}
+use lib.Seq.{take-suc, drop-cons, set-at, getD-take, getD-drop, length-take-le, sets-eq, getD-append-add, take-at, drop-append-add, drop-drop}
 
 -- the words of p from i on of the first n stand a row higher
 abbrev pub movedUp : List ℕ → ℕ → ℕ → List ℕ

@@ -1,24 +1,21 @@
--- Segments that tile, joined and parted; a window of a map, and the map with other rows in it; a row of a table with those before and after it.
+-- Segments that tile, joined and parted; a window of a map, and the map with other rows in it.
 -- Assumes nothing.
 use mathlib.Core.Path.{_≡_, refl, sym, ap, _∙_, subst}
-use mathlib.Core.Bool.{Bool, true, false, not}
+use mathlib.Core.Bool.{Bool, true, false}
 use mathlib.Core.List.{List, [], _∷_, _++_}
-use Prim.Native.Nat.{ℕ, zero, suc, _+_, _≤_, _<_}
+use Prim.Native.Nat.{ℕ, _+_, _≤_}
 use native.Mathlib.Omega.{arith}
 use lib.Dec.{leb, ltb}
-use lib.ListN.{length, take, drop}
-use lib.Seq.{length-take-le}
+use lib.ListN.{length}
 use borrow.Author.Tests.{eqb-true, eq-eqb, le-leb, lt-ltb}
 use Rattle.model.specs.Choose.{every, only}
 use Rattle.model.specs.Quantities.{Config}
 use Rattle.model.specs.SegmentMap.{isFree, isLive, mapOf}
-use Rattle.model.proofs.Choosing.{split, parts, both-true, every-head, every-tail, every-append, only-append}
-use Rattle.segments.specs.Rows.{segmentAt, segmentsIn}
+use Rattle.model.proofs.Choosing.{parts, both-true, every-append, every-front, every-back, only-window}
 use Rattle.segments.specs.Tiling.{tiles, wellFormed, noTwoFree, isMap}
-use Rattle.segments.proofs.Rows.{length-segments}
 use Rattle.segments.proofs.MapTiles.{tiles-cons}
 use Rattle.segments.proofs.TilesMap.{First, first, map-back}
-use Rattle.segments.proofs.Reading.{row-below, tiles-le}
+use Rattle.segments.proofs.Reading.{tiles-le}
 use Rattle.segments.proofs.Apart.{apartFrom, apart-all, lastFree, firstFree, apart-front, apart-back, apart-join, apart-any}
 use Rattle.model.specs.declared.Segment.{Segment}
 
@@ -60,43 +57,6 @@ tiles-from s t e [] h g = refl
 tiles-from s t e (x ∷ xs) h g =
     let f : First t e x xs = first t e x xs g in
     both-true _ _ (le-leb s (x .start) (omega arith)) (tiles-from s (x .start + x .length) e xs (omega arith) (f .rest))
-
--- what holds of each holds of those before a place, of those after it, and of those picked
-pub every-front : {A : Type 0} (p : A → Bool) (ys zs : List A) → every p (ys ++ zs) ≡ true → every p ys ≡ true
-every-front p [] zs e = refl
-every-front p (y ∷ ys) zs e = both-true _ _ (every-head p y (ys ++ zs) e) (every-front p ys zs (every-tail p y (ys ++ zs) e))
-
-pub every-back : {A : Type 0} (p : A → Bool) (ys zs : List A) → every p (ys ++ zs) ≡ true → every p zs ≡ true
-every-back p [] zs e = e
-every-back p (y ∷ ys) zs e = every-back p ys zs (every-tail p y (ys ++ zs) e)
-
-pub every-only : {A : Type 0} (p q : A → Bool) (xs : List A) → every p xs ≡ true → every p (only q xs) ≡ true
-every-only p q [] e = refl
-every-only p q (x ∷ xs) e =
-    let r : every p (only q xs) ≡ true = every-only p q xs (every-tail p x xs e) in
-    split (q x) (λ y. rw y (both-true _ _ (every-head p x xs e) r)) (λ y. rw y r)
-
--- what holds of those picked holds of one that is picked
-pub every-picked : {A : Type 0} (p q : A → Bool) (ys : List A) (x : A) (zs : List A) → every p (only q (ys ++ (x ∷ zs))) ≡ true → q x ≡ true → p x ≡ true
-every-picked p q ys x zs e h =
-    let r : every p (only q (x ∷ zs)) ≡ true = every-back p (only q ys) (only q (x ∷ zs)) (rw (only-append q ys (x ∷ zs)) at e) in
-    every-head p x (only q zs) (rw h at r)
-
-pub every-weaker : {A : Type 0} (p q : A → Bool) → ((x : A) → p x ≡ true → q x ≡ true) → (xs : List A) → every p xs ≡ true → every q xs ≡ true
-every-weaker p q h [] e = refl
-every-weaker p q h (x ∷ xs) e = both-true _ _ (h x (every-head p x xs e)) (every-weaker p q h xs (every-tail p x xs e))
-
--- all are picked where the test holds of each, and none where it fails of each
-pub only-all : {A : Type 0} (p : A → Bool) (xs : List A) → every p xs ≡ true → only p xs ≡ xs
-only-all p [] e = refl
-only-all p (x ∷ xs) e = rw (every-head p x xs e) (ap (λ r. x ∷ r) (only-all p xs (every-tail p x xs e)))
-
-pub only-none : {A : Type 0} (p : A → Bool) (xs : List A) → every p xs ≡ true → only (λ (x : A). not (p x)) xs ≡ []
-only-none p [] e = refl
-only-none p (x ∷ xs) e = rw (every-head p x xs e) (only-none p xs (every-tail p x xs e))
-
-pub only-window : {A : Type 0} (p : A → Bool) (xs ys zs : List A) → only p (xs ++ (ys ++ zs)) ≡ only p xs ++ (only p ys ++ only p zs)
-only-window p xs ys zs = only-append p xs (ys ++ zs) ∙ ap (λ r. only p xs ++ r) (only-append p ys zs)
 
 module _ (c : Config) (before old after : List Segment) where
   -- Rows in the midst of a map: they fill the granules from one to another, and what stands around them is as in the map.
@@ -171,14 +131,3 @@ row-of c ys x zs m =
       apart = a;
       apart-after = apart-back (lastFree false ys) (x ∷ []) zs a;
     }
-
--- The rows in use are those before row i, row i and those after it.
-pub row-parted : (n : ℕ) (ws : List ℕ) (i : ℕ) → i < n → segmentsIn n ws ≡ take i (segmentsIn n ws) ++ (segmentAt ws i ∷ drop (i + 1) (segmentsIn n ws))
-row-parted zero ws i h = absurd (omega arith)
-row-parted (suc n) ws zero h = refl
-row-parted (suc n) ws (suc i) h =
-    let z : suc i + 1 ≡ suc (i + 1) = omega arith in
-    rw (← row-below ws i, z) (ap (λ r. segmentAt ws 0 ∷ r) (row-parted n (drop 4 ws) i (omega arith)))
-
-pub rows-before : (n : ℕ) (ws : List ℕ) (i : ℕ) → i < n → length (take i (segmentsIn n ws)) ≡ i
-rows-before n ws i h = length-take-le i (segmentsIn n ws) (omega (arith, length-segments n ws))

@@ -1,18 +1,19 @@
 -- The rows read one after the other.
 -- Assumes nothing.
-use mathlib.Core.Path.{_≡_, refl, ap, _∙_}
+use mathlib.Core.Path.{_≡_, refl, sym, ap, _∙_}
 use mathlib.Core.Bool.{Bool, true}
-use mathlib.Core.List.{List, [], _∷_}
-use Prim.Native.Nat.{ℕ, zero, suc, _+_, _*_, _-_, _≤_, _<_}
+use mathlib.Core.List.{List, [], _∷_, _++_}
+use Prim.Native.Nat.{ℕ, zero, suc, _+_, _*_, _≤_, _<_}
 use native.Mathlib.Omega.{arith}
 use lib.Dec.{leb}
-use lib.ListN.{length, drop, getD}
-use lib.Seq.{getD-drop, drop-drop}
+use lib.ListN.{length, take, drop, getD, take-append-drop, drop-of-length-le}
+use lib.Seq.{getD-drop, length-take-le}
 use borrow.Author.Tests.{eqb-true, le-leb}
 use Rattle.model.specs.Choose.{every}
 use Rattle.model.proofs.Choosing.{tests, every-head, every-tail}
 use Rattle.segments.specs.Rows.{segmentAt, segmentsIn}
 use Rattle.segments.specs.Tiling.{tiles}
+use Rattle.segments.proofs.Rows.{length-segments}
 use Rattle.segments.proofs.TilesMap.{First, first}
 use Rattle.model.specs.declared.Segment.{Segment}
 
@@ -23,27 +24,27 @@ row-below ws j =
     let z : getD (drop 4 ws) (4 * j) 0 ≡ getD ws (4 * suc j) 0 = getD-drop 4 ws (4 * j) 0 ∙ ap (λ (i : ℕ). getD ws i 0) (omega arith) in
     λ i. record { start = z i; length = at 1 i; owner = at 2 i; requested = at 3 i }
 
-first-row : (ws : List ℕ) (i : ℕ) → segmentAt (drop (4 * i) ws) 0 ≡ segmentAt ws i
-first-row ws i =
-    let at : (k : ℕ) → getD (drop (4 * i) ws) k 0 ≡ getD ws (4 * i + k) 0 = λ k. getD-drop (4 * i) ws k 0 in
-    let z : getD (drop (4 * i) ws) 0 0 ≡ getD ws (4 * i) 0 = at 0 ∙ ap (λ (i : ℕ). getD ws i 0) (omega arith) in
-    λ j. record { start = z j; length = at 1 j; owner = at 2 j; requested = at 3 j }
-
--- the segments from row i on
+-- The segments from row i on.
 abbrev pub rest : ℕ → ℕ → List ℕ → List Segment
-rest n i ws = segmentsIn (n - i) (drop (4 * i) ws)
+rest n i ws = drop i (segmentsIn n ws)
 
+-- They begin with that of row i.
 pub rest-row : (n i : ℕ) (ws : List ℕ) → i < n → rest n i ws ≡ segmentAt ws i ∷ rest n (i + 1) ws
-rest-row n i ws h =
-    let z : n - i ≡ suc (n - (i + 1)) = omega arith in
-    let d : drop 4 (drop (4 * i) ws) ≡ drop (4 * (i + 1)) ws = (let y : 4 * i + 4 ≡ 4 * (i + 1) = omega arith in rw (← y) (drop-drop 4 (4 * i) ws)) in
-    rw z (λ j. first-row ws i j ∷ segmentsIn (n - (i + 1)) (d j))
+rest-row zero i ws h = absurd (omega arith)
+rest-row (suc n) zero ws h = refl
+rest-row (suc n) (suc i) ws h =
+    let z : suc i + 1 ≡ suc (i + 1) = omega arith in
+    rw (← row-below ws i, z) (rest-row n i (drop 4 ws) (omega arith))
 
 pub rest-none : (n i : ℕ) (ws : List ℕ) → n ≤ i → rest n i ws ≡ []
-rest-none n i ws h = let z : n - i ≡ 0 = omega arith in rw z
+rest-none n i ws h = drop-of-length-le (segmentsIn n ws) {i = i} (omega (arith, length-segments n ws))
 
-pub all-left : (n : ℕ) (ws : List ℕ) → segmentsIn n ws ≡ rest n 0 ws
-all-left n ws = let z : n ≡ n - 0 = omega arith in ap (λ (k : ℕ). segmentsIn k ws) z
+-- The rows in use are those before row i, row i and those after it.
+pub row-parted : (n : ℕ) (ws : List ℕ) (i : ℕ) → i < n → segmentsIn n ws ≡ take i (segmentsIn n ws) ++ (segmentAt ws i ∷ rest n (i + 1) ws)
+row-parted n ws i h = sym (take-append-drop i (segmentsIn n ws)) ∙ ap (λ (r : List Segment). take i (segmentsIn n ws) ++ r) (rest-row n i ws h)
+
+pub rows-before : (n : ℕ) (ws : List ℕ) (i : ℕ) → i < n → length (take i (segmentsIn n ws)) ≡ i
+rows-before n ws i h = length-take-le i (segmentsIn n ws) (omega (arith, length-segments n ws))
 
 -- what holds of every segment holds of each row
 pub every-row : (p : Segment → Bool) (n : ℕ) (ws : List ℕ) (i : ℕ) → i < n → every p (segmentsIn n ws) ≡ true → p (segmentAt ws i) ≡ true

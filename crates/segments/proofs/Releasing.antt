@@ -14,16 +14,16 @@ use Rattle.model.specs.Choose.{choose, every, only}
 use Rattle.model.specs.Quantities.{Config}
 use Rattle.model.specs.Allocation.{offset, blockAt, without}
 use Rattle.model.specs.SegmentMap.{isFree, isLive, freeRun, gap, mapFrom, mapOf, rowsOf}
-use Rattle.model.proofs.Choosing.{split, tests, only-append}
+use Rattle.model.proofs.Choosing.{split, tests, only-append, every-only, every-weaker, only-all, only-none}
 use Rattle.model.proofs.Ordered.{Live, Ordered}
 use Rattle.segments.specs.Rows.{segmentAt, segmentsIn, blocksIn}
 use Rattle.segments.specs.Tiling.{tiles, isMap}
 use Rattle.segments.specs.Changes.{joinFirst, joined, freeFirst, freed, released}
 use Rattle.segments.proofs.MapTiles.{owner-not-0, run-tiles, live-map, is-map}
 use Rattle.segments.proofs.TilesMap.{First, first}
-use Rattle.segments.proofs.Reading.{tiles-le}
+use Rattle.segments.proofs.Reading.{tiles-le, row-parted, rows-before}
 use Rattle.segments.proofs.Apart.{apartFrom, firstFree, lastFree, last-end, apart-front, apart-back, apart-free, apart-first}
-use Rattle.segments.proofs.Parted.{Parted, part, startsFrom, startsBefore, every-only, every-weaker, only-all, only-none, Window, window, refilled, Row, row-of, row-parted, rows-before}
+use Rattle.segments.proofs.Parted.{Parted, part, startsFrom, startsBefore, Window, window, refilled, Row, row-of}
 use Rattle.model.specs.declared.Segment.{Segment}
 
 -- what is done at a row, done to the rows from there on

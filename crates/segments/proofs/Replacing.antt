@@ -3,17 +3,16 @@
 use mathlib.Core.Path.{_≡_, refl, sym, ap, _∙_}
 use mathlib.Core.Bool.{true, false}
 use mathlib.Core.List.{List, [], _∷_, _++_, append-assoc}
-use Prim.Native.Nat.{ℕ, zero, suc, _+_, _*_, _-_, _≤_, _<_}
+use Prim.Native.Nat.{ℕ, _+_, _-_, _≤_, _<_}
 use native.Mathlib.Omega.{arith}
-use lib.Dec.{ltb}
-use lib.ListN.{length, take, drop, take-append-drop, length-append, length-take, length-drop}
-use lib.Seq.{take-at, drop-at, drop-append-add, length-take-le}
+use lib.ListN.{length, take, drop, take-append-drop, length-append}
+use lib.Seq.{take-at, drop-at, drop-append-add}
 use borrow.Author.Tests.{lt-ltb, le-ltb}
-use Rattle.model.specs.Choose.{both, total}
+use Rattle.model.specs.Choose.{both}
 use Rattle.model.specs.Allocation.{granulesOf}
 use Rattle.model.specs.SegmentMap.{isFree, freeRun, gap}
-use Rattle.model.proofs.Choosing.{split, tests}
-use Rattle.segments.specs.Changes.{replaced, inserted, removed, cut, joinFirst, joined, freeFirst, freed, released}
+use Rattle.model.proofs.Choosing.{split}
+use Rattle.segments.specs.Changes.{replaced, removed, cut, joinFirst, joined, freeFirst, freed}
 use Rattle.model.specs.declared.Segment.{Segment}
 
 -- A window replaced, where the rows are given in parts.

@@ -8,13 +8,13 @@ use native.Mathlib.Omega.{arith}
 use lib.ListN.{length, take, drop, replicate, length-append, length-take, length-drop, length-replicate, take-append-drop, drop-of-length-le}
 use lib.Seq.{take-all, take-at, drop-at, drop-append-add, drop-drop, length-take-le}
 use borrow.Rule.Slice.PartMut.{midOf, putMid}
-use Rattle.segments.specs.Rows.{wordsOf, tableOf, segmentAt, segmentsIn, withRow, opened, closed, withRows, Rewritten}
+use Rattle.segments.specs.Rows.{wordsOf, segmentAt, segmentsIn, withRow, opened, closed, withRows, Rewritten}
 use borrow.Author.Tests.{lt-ltb, le-ltb}
 use Rattle.model.specs.Allocation.{granulesOf}
 use Rattle.model.specs.SegmentMap.{isFree, freeRun, gap}
 use Rattle.segments.specs.Changes.{replaced, inserted, removed, cut, joinFirst, joined, freeFirst, freed, released}
 use Rattle.segments.proofs.Replacing.{replaced-none, gap-some, gap-none, cut-steps, join-steps, first-live, second-live, both-free, granules-append, granules-joined, granules-freed, length-freed, length-joined}
-use Rattle.segments.proofs.Reading.{rest-row}
+use Rattle.segments.proofs.Reading.{rest-row, row-parted, rows-before}
 use Rattle.segments.proofs.Rows.{read-back, length-words, length-segments, words-back}
 use Rattle.model.specs.declared.Segment.{Segment}
 
@@ -229,18 +229,6 @@ module _ (n : ℕ) (ws : List ℕ) (fits : 4 * n ≤ length ws) (i : ℕ) (h : i
   abbrev here : List Segment
   here = segmentsIn n ws
 
-  -- The rows from row i on begin with its segment.
-  pub row-first : drop i here ≡ segmentAt ws i ∷ drop (i + 1) here
-  row-first =
-      sym (segments-back i n ws (omega arith)) ∙ rest-row n i ws h ∙ ap (λ (q : List Segment). segmentAt ws i ∷ q) (segments-back (i + 1) n ws (omega arith))
-
-  -- The rows in use are those before row i, its segment, and those after.
-  pub row-parted : here ≡ take i here ++ (segmentAt ws i ∷ drop (i + 1) here)
-  row-parted = sym (take-append-drop i here) ∙ ap (λ (q : List Segment). take i here ++ q) row-first
-
-  front-length : length (take i here) ≡ i
-  front-length = length-take-le i here (omega (arith, length-segments n ws))
-
   -- One row set, as a change of the rows in use.
   pub set-rows : (x : Segment) (after : List ℕ) → after ≡ withRow ws i x → Rewritten n ws (replaced i 1 (x ∷ []) here) n after
   set-rows x after e =
@@ -259,9 +247,9 @@ module _ (n : ℕ) (ws : List ℕ) (fits : 4 * n ≤ length ws) (i : ℕ) (h : i
       let r2 : Rewritten n ws ys m two = change-more (replaced (i + 1) 0 last) (set-rows b one e) r (omega arith) (omega arith) in
       let r3 : Rewritten n ws (replaced i 0 first ys) k three = change-more (replaced i 0 first) r2 q (omega arith) (omega arith) in
       let z : replaced i 0 first ys ≡ replaced i 1 (first ++ (b ∷ last)) here =
-      ap (λ (t : List Segment). replaced i 0 first (replaced (i + 1) 0 last (replaced i 1 (b ∷ []) t))) row-parted
-      ∙ cut-steps (take i here) (drop (i + 1) here) (segmentAt ws i) b first last i front-length
-      ∙ ap (replaced i 1 (first ++ (b ∷ last))) (sym row-parted) in
+      ap (λ (t : List Segment). replaced i 0 first (replaced (i + 1) 0 last (replaced i 1 (b ∷ []) t))) (row-parted n ws i h)
+      ∙ cut-steps (take i here) (drop (i + 1) here) (segmentAt ws i) b first last i (rows-before n ws i h)
+      ∙ ap (replaced i 1 (first ++ (b ∷ last))) (sym (row-parted n ws i h)) in
       subst (λ (t : List Segment). Rewritten n ws t k three) z r3
 
   -- A row cut for a block, in three steps.
@@ -274,12 +262,12 @@ module _ (n : ℕ) (ws : List ℕ) (fits : 4 * n ≤ length ws) (i : ℕ) (h : i
 
   -- Row i freed.
   pub freed-is : replaced i 1 (freeRun (segmentAt ws i .start) (segmentAt ws i .length) ∷ []) here ≡ freed i here
-  freed-is = sym (ap (λ (q : List Segment). take i here ++ freeFirst q) row-first)
+  freed-is = sym (ap (λ (q : List Segment). take i here ++ freeFirst q) (rest-row n i ws h))
 
   -- Rows i and i + 1 where they are not both free.
   pub joined-same : joinFirst (segmentAt ws i ∷ drop (i + 1) here) ≡ segmentAt ws i ∷ drop (i + 1) here → Rewritten n ws (joined i here) n ws
   joined-same e =
-      let z : here ≡ joined i here = row-parted ∙ ap (λ (q : List Segment). take i here ++ q) (sym e ∙ ap joinFirst (sym row-first)) in
+      let z : here ≡ joined i here = row-parted n ws i h ∙ ap (λ (q : List Segment). take i here ++ q) (sym e ∙ ap joinFirst (sym (rest-row n i ws h))) in
       record { rows = sym (ap length (sym z) ∙ length-segments n ws); words = sym (rows-same n ws fits i) ∙ ap (withRows n ws) z }
 
   pub joined-end : n ≤ i + 1 → Rewritten n ws (joined i here) n ws
@@ -293,7 +281,7 @@ module _ (n : ℕ) (ws : List ℕ) (fits : 4 * n ≤ length ws) (i : ℕ) (h : i
   these = segmentsIn n ws
 
   two-first : drop i these ≡ segmentAt ws i ∷ segmentAt ws (i + 1) ∷ drop (i + 1 + 1) these
-  two-first = row-first n ws fits i (omega arith) ∙ ap (λ (q : List Segment). segmentAt ws i ∷ q) (row-first n ws fits (i + 1) h)
+  two-first = rest-row n i ws (omega arith) ∙ ap (λ (q : List Segment). segmentAt ws i ∷ q) (rest-row n (i + 1) ws h)
 
   -- the sum of two rows' lengths is among that of all
   pub two-granules : segmentAt ws i .length + segmentAt ws (i + 1) .length ≤ granulesOf these
@@ -303,7 +291,7 @@ module _ (n : ℕ) (ws : List ℕ) (fits : 4 * n ≤ length ws) (i : ℕ) (h : i
   pub joined-apart : isFree (segmentAt ws (i + 1)) ≡ false → Rewritten n ws (joined i these) n ws
   joined-apart q =
       joined-same n ws fits i (omega arith)
-      (rw (row-first n ws fits (i + 1) h) (second-live (segmentAt ws i) (segmentAt ws (i + 1)) (drop (i + 1 + 1) these) q))
+      (rw (rest-row n (i + 1) ws h) (second-live (segmentAt ws i) (segmentAt ws (i + 1)) (drop (i + 1 + 1) these) q))
 
   -- both free
   pub joined-free : (run : Segment) (one two : List ℕ) → isFree (segmentAt ws i) ≡ true → isFree (segmentAt ws (i + 1)) ≡ true
@@ -320,8 +308,8 @@ module _ (n : ℕ) (ws : List ℕ) (fits : 4 * n ≤ length ws) (i : ℕ) (h : i
       ap (λ (x : Segment). take i these ++ (x ∷ drop (i + 1 + 1) these)) r
       ∙ sym (ap (λ (q : List Segment). take i these ++ joinFirst q) two-first ∙ ap (λ (q : List Segment). take i these ++ q) (both-free (segmentAt ws i) (segmentAt ws (i + 1)) (drop (i + 1 + 1) these) p q)) in
       let z : removed (i + 1) xs ≡ joined i these =
-      ap (λ (q : List Segment). removed (i + 1) (replaced i 1 (run ∷ []) q)) (row-parted n ws fits i (omega arith) ∙ ap (λ (q : List Segment). take i these ++ (segmentAt ws i ∷ q)) (row-first n ws fits (i + 1) h))
-      ∙ join-steps (take i these) (drop (i + 1 + 1) these) (segmentAt ws i) (segmentAt ws (i + 1)) run i (length-take-le i these (omega (arith, length-segments n ws)))
+      ap (λ (q : List Segment). removed (i + 1) (replaced i 1 (run ∷ []) q)) (row-parted n ws i (omega arith) ∙ ap (λ (q : List Segment). take i these ++ (segmentAt ws i ∷ q)) (rest-row n (i + 1) ws h))
+      ∙ join-steps (take i these) (drop (i + 1 + 1) these) (segmentAt ws i) (segmentAt ws (i + 1)) run i (rows-before n ws i (omega arith))
       ∙ w in
       subst (λ (q : List Segment). Rewritten n ws q (n - 1) two) z (change-fewer (removed (i + 1)) s t (omega arith) (omega arith))
 

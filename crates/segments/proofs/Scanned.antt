@@ -3,7 +3,7 @@
 use mathlib.Core.Path.{_≡_, refl, sym, ap, _∙_, subst}
 use mathlib.Core.Bool.{Bool, true, false, not}
 use mathlib.Core.List.{List, [], _∷_}
-use Prim.Native.Nat.{ℕ, zero, suc, _+_, _*_, _-_, _/_, _%_, _^_, _≤_, _<_}
+use Prim.Native.Nat.{ℕ, _+_, _*_, _-_, _/_, _%_, _^_, _≤_, _<_}
 use native.Mathlib.Nat.{mod-eq-of-lt}
 use native.Mathlib.Omega.{arith}
 use lib.Dec.{leb, eqb}
@@ -12,14 +12,14 @@ use Rattle.model.specs.Choose.{choose, both, every, only, leastFrom}
 use Rattle.model.specs.Quantities.{Config, isAlignment}
 use Rattle.model.specs.Allocation.{clearOf, serves, lowestStart}
 use Rattle.model.specs.SegmentMap.{isFree, isLive}
-use Rattle.model.proofs.Choosing.{split, tests, clash, parts, both-left, every-head, every-tail, some-least}
+use Rattle.model.proofs.Choosing.{split, tests, clash, parts, both-left, every-head, every-tail, some-least, least-skip, least-same}
 use Rattle.model.proofs.Ordered.{Ordered, after-clear, clear-before, clear-all}
 use Rattle.model.proofs.Served.{alignment-granules}
 use Rattle.segments.specs.Rows.{segmentAt, segmentsIn, blocksIn}
 use Rattle.segments.specs.Tiling.{tiles, wellFormed, noTwoFree, isMap}
 use Rattle.segments.specs.Search.{padding, startOf, Found}
 use Rattle.segments.proofs.TilesMap.{First, first, ordered-back, apart-tail}
-use Rattle.segments.proofs.Reading.{rest, rest-row, rest-none, all-left, every-row, tiles-le, endsBy, tiles-end}
+use Rattle.segments.proofs.Reading.{rest, rest-row, rest-none, every-row, tiles-le, endsBy, tiles-end}
 use Rattle.segments.proofs.Padding.{Padded, padded}
 use Rattle.model.specs.declared.Segment.{Segment}
 use Rattle.segments.specs.declared.Fit.{Fit}
@@ -33,18 +33,6 @@ hit g m x = both (isFree x) (leb (padding m (x .start) + g) (x .length))
 abbrev pub firstHit : ℕ → ℕ → ℕ → List Segment → Fit
 firstHit g m i [] = fit.Nothing
 firstHit g m i (x ∷ xs) = choose (hit g m x) (fit.At i (x .start + padding m (x .start))) (firstHit g m (i + 1) xs)
-
--- the least of a test that fails for a while, or of another that is the same from there on
-least-skip : (p : ℕ → Bool) (i k n : ℕ) → ((j : ℕ) → i ≤ j → j < i + k → p j ≡ false) → leastFrom p i (k + n) ≡ leastFrom p (i + k) n
-least-skip p i zero n h = let z : i + 0 ≡ i = omega arith in let y : 0 + n ≡ n = omega arith in rw (z, y)
-least-skip p i (suc k) n h =
-    let z : i + suc k ≡ suc i + k = omega arith in
-    let y : suc k + n ≡ suc (k + n) = omega arith in
-    rw (y, z, h i (omega arith) (omega arith)) (least-skip p (suc i) k n (λ j a b. h j (omega arith) (omega arith)))
-
-least-same : (p q : ℕ → Bool) (i n : ℕ) → ((j : ℕ) → i ≤ j → p j ≡ q j) → leastFrom p i n ≡ leastFrom q i n
-least-same p q i zero h = refl
-least-same p q i (suc n) h = rw (h i (omega arith), least-same p q (suc i) n (λ j a. h j (omega arith)))
 
 module _ (c : Config) (g m a : ℕ) (hg : 1 ≤ g) (up : (s : ℕ) → Padded m a s) where
   -- a start in a live block does not serve
@@ -123,7 +111,7 @@ pub record Passed (g m n i : ℕ) (ws : List ℕ) : Type 0 where
 
 -- There is no row before row 0.
 pub passed-none : (g m n : ℕ) (ws : List ℕ) → Passed g m n 0 ws
-passed-none g m n ws = record { same = ap (firstHit g m 0) (all-left n ws) }
+passed-none g m n ws = record { same = refl }
 
 module _ {g m n i : ℕ} {ws : List ℕ} (p : Passed g m n i ws) (h : i < n) (x : Segment) (e : x ≡ segmentAt ws i) where
   this-row : rest n i ws ≡ x ∷ rest n (i + 1) ws

@@ -12,7 +12,7 @@ use Rattle.model.specs.Choose.{every, only}
 use Rattle.model.specs.Quantities.{Config}
 use Rattle.model.specs.Allocation.{clearOf, serves, insert}
 use Rattle.model.specs.SegmentMap.{isFree, isLive, gap, mapOf, rowsOf}
-use Rattle.model.proofs.Choosing.{split, tests, both-true, every-head, every-tail, every-append, only-append}
+use Rattle.model.proofs.Choosing.{split, tests, both-true, every-head, every-tail, every-append, only-append, every-back, every-only, every-picked}
 use Rattle.model.proofs.Ordered.{Live, Ordered, long, clear-before, Place, place}
 use Rattle.model.proofs.MapRows.{gap-short}
 use Rattle.segments.specs.Rows.{segmentAt, segmentsIn, blocksIn}
@@ -20,8 +20,9 @@ use Rattle.segments.specs.Tiling.{tiles, wellFormed, isMap}
 use Rattle.segments.specs.Changes.{replaced, cut}
 use Rattle.segments.proofs.MapTiles.{gap-free, gap-formed, tiles-cons, tiles-gap, gap-tiles, live-formed, owner-not-0, live-map, tiles-map, is-map}
 use Rattle.segments.proofs.TilesMap.{First, first}
+use Rattle.segments.proofs.Reading.{row-parted}
 use Rattle.segments.proofs.Apart.{apartFrom, firstFree, lastFree, apart-free, apart-first, gap-apart}
-use Rattle.segments.proofs.Parted.{startsBefore, startsFrom, every-back, every-only, every-picked, refilled, Row, row-of, row-parted}
+use Rattle.segments.proofs.Parted.{startsBefore, startsFrom, refilled, Row, row-of}
 use Rattle.model.specs.declared.Segment.{Segment}
 
 -- a block is inserted after those that begin before it, and before those that begin after it

@@ -13,7 +13,7 @@ use Rattle.segments.specs.Rows.{segmentAt, segmentsIn}
 use Rattle.segments.specs.Tiling.{tiles}
 use Rattle.segments.specs.Search.{RowOf}
 use Rattle.segments.proofs.TilesMap.{First, first}
-use Rattle.segments.proofs.Reading.{rest, rest-row, rest-none, all-left}
+use Rattle.segments.proofs.Reading.{rest, rest-row, rest-none}
 
 module _ (s e n : ℕ) (ws : List ℕ) (t : tiles s e (segmentsIn n ws) ≡ true) where
   abbrev endOf : ℕ → ℕ
@@ -24,7 +24,7 @@ module _ (s e n : ℕ) (ws : List ℕ) (t : tiles s e (segmentsIn n ws) ≡ true
   at b i h r = first b e (segmentAt ws i) (rest n (i + 1) ws) (ap (tiles b e) (sym (rest-row n i ws h)) ∙ r)
 
   row-0 : 0 < n → First s e (segmentAt ws 0) (rest n 1 ws)
-  row-0 h = at s 0 h (ap (tiles s e) (sym (all-left n ws)) ∙ t)
+  row-0 h = at s 0 h t
 
   -- the rows after row i begin where it ends
   after : (i : ℕ) → i < n → tiles (endOf i) e (rest n (i + 1) ws) ≡ true

@@ -1,17 +1,15 @@
-use mathlib.Core.Path.{_≡_, ap, _∙_}
+-- `segments::insert_row` meets its contract: a row opened in the part from row `i` on, and set.
+-- Assumes nothing.
+use mathlib.Core.Path.{ap, _∙_}
 use mathlib.Core.List.{List, _++_}
 use Prim.Native.Nat.{ℕ, _*_, _-_}
 use native.Mathlib.Omega.{arith}
-use lib.ListN.{take, drop}
+use lib.ListN.{take}
 use Rattle.segments.specs.Rows.{withRow, opened}
 use Rattle.segments.proofs.Rewriting.{part-lent, part-back, row-more}
 use borrow.Author.Needs.{needs}
 use Rattle.segments.proofs.insert_row.Statement.{statement}
 use Rattle.segments.proofs.insert_row.Tie as tie
-use Rattle.segments.proofs.insert_row.Reads as reads
-use Rattle.segments.proofs.insert_row.Lts as lts
-use Rattle.segments.proofs.open_row.Reads as open-row-reads
-use Rattle.segments.proofs.put_row.Reads as put-row-reads
 
 mul-at : tie.Need-mul-at
 mul-at c = search needs

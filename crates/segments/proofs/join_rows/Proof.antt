@@ -1,94 +1,72 @@
-use mathlib.Core.Path.{_≡_, sym, ap, _∙_, subst}
-use Prim.Native.Nat.{ℕ, _+_}
+-- `segments::join_rows` meets its contract: three returns leave the rows as they are, the last has the first row set and the second removed.
+-- Assumes nothing.
+use mathlib.Core.Path.{sym, ap, _∙_}
+use Prim.Native.Nat.{_+_}
 use native.Mathlib.Omega.{arith}
 use borrow.Author.Tests.{eq-eqb, ne-eqb}
 use Rattle.model.specs.SegmentMap.{freeRun}
-use Rattle.segments.specs.Rows.{segmentAt}
 use Rattle.segments.proofs.Rewriting.{joined-end, joined-live, joined-apart, joined-free, two-granules}
 use Rattle.model.specs.declared.Segment.{Segment}
 use borrow.Author.Needs.{needs}
 use Rattle.segments.proofs.join_rows.Statement.{statement}
 use Rattle.segments.proofs.join_rows.Tie as tie
-use Rattle.segments.proofs.join_rows.Reads as reads
-use Rattle.segments.proofs.join_rows.Lts as lts
-use Rattle.segments.proofs.free_run.Reads as free-run-reads
-use Rattle.segments.proofs.put_row.Reads as put-row-reads
-use Rattle.segments.proofs.remove_row.Reads as remove-row-reads
-use Rattle.segments.proofs.row.Reads as row-reads
 
--- src/lib.rt:340:8
 sub-if1 : tie.Need-sub-if1
 sub-if1 c = search needs
 
--- src/lib.rt:341:9
 returns : tie.Need-returns
 returns c =
     let p = c .before .before in
     joined-end (p .args .rows) (p .args .table .now) (p .pre .1) (p .args .i) (p .pre .0) (omega arith)
 
--- src/lib.rt:343:9
 row-requires : tie.Need-row-requires
 row-requires c κs = search needs
 
--- src/lib.rt:345:9
 same-length : tie.Need-same-length
 same-length c = search needs
 
--- src/lib.rt:345:9
 returns-2 : tie.Need-returns-2
 returns-2 c =
     let p = c .before .before .before .before .before .before in
     joined-live (p .args .rows) (p .args .table .now) (p .pre .1) (p .args .i) (p .pre .0) (ne-eqb _ 0 (λ z. c .if2 .taken (ap (λ (x : Segment). x .owner) (c .before .before .row .ensures) ∙ z)))
 
--- src/lib.rt:347:27
 add-row : tie.Need-add-row
 add-row c = search needs
 
--- src/lib.rt:347:9
 row-requires-2 : tie.Need-row-requires-2
 row-requires-2 c κs = search needs
 
--- src/lib.rt:349:9
 same-length-2 : tie.Need-same-length-2
 same-length-2 c = search needs
 
--- src/lib.rt:349:9
 returns-3 : tie.Need-returns-3
 returns-3 c =
     let p = c .before .before .before .before .before .before .before .before .before .before in
     joined-apart (p .args .rows) (p .args .table .now) (p .pre .1) (p .args .i) (omega (arith, c .before .before .before .before .before .before .before .before .if1 .left)) (ne-eqb _ 0 (λ z. c .if3 .taken (ap (λ (x : Segment). x .owner) (c .before .before .row2 .ensures) ∙ z)))
 
--- src/lib.rt:351:33
 add-free-run : tie.Need-add-free-run
 add-free-run c =
     let p = c .before .before .before .before .before .before .before .before .before .before .before .before in
     omega (arith, two-granules (p .args .rows) (p .args .table .now) (p .pre .1) (p .args .i) (omega (arith, c .before .before .before .before .before .before .before .before .before .before .if1 .left)), p .pre .2, ap (λ (x : Segment). x .length) (c .before .before .before .before .before .before .before .before .row .ensures), ap (λ (x : Segment). x .length) (c .before .before .before .before .row2 .ensures))
 
--- src/lib.rt:351:9
 free-run-requires : tie.Need-free-run-requires
 free-run-requires c κs = search needs
 
--- src/lib.rt:352:5
 put-row-requires : tie.Need-put-row-requires
 put-row-requires c κs = search needs
 
--- src/lib.rt:353:29
 add-remove-row : tie.Need-add-remove-row
 add-remove-row c = omega (arith, c .before .before .before .before .before .before .before .before .before .before .before .before .before .before .before .before .if1 .left, c .before .before .before .before .before .before .before .before .before .before .before .before .before .before .before .before .before .before .fits)
 
--- src/lib.rt:353:5
 remove-row-requires : tie.Need-remove-row-requires
 remove-row-requires c κs = (omega (arith, c .before .before .before .before .before .before .before .before .before .before .before .before .before .before .before .before .if1 .left), omega (arith, c .before .before .before .before .before .before .before .before .before .before .before .before .before .before .before .before .before .before .pre .1))
 
--- src/lib.rt:354:5
 sub-result : tie.Need-sub-result
 sub-result c = search needs
 
--- src/lib.rt:336:1
 same-length-3 : tie.Need-same-length-3
 same-length-3 c = search needs
 
--- src/lib.rt:336:1
 returns-4 : tie.Need-returns-4
 returns-4 c =
     let p = c .before .before .before .before .before .before .before .before .before .before .before .before .before .before .before .before .before .before .before .before .before in

@@ -1,54 +1,43 @@
-use mathlib.Core.Path.{_≡_, sym, ap, _∙_, subst}
-use Prim.Native.Nat.{ℕ, _+_, _*_, _≤_}
+-- `segments::split_row` meets its contract: the row set to the block, then the rest after it inserted, then the rest before it.
+-- Assumes nothing.
+use mathlib.Core.Path.{ap}
+use Prim.Native.Nat.{_+_}
 use native.Mathlib.Omega.{arith}
 use lib.ListN.{length}
 use Rattle.model.specs.SegmentMap.{gap}
-use Rattle.segments.specs.Rows.{segmentAt, segmentsIn, Rewritten}
-use Rattle.segments.specs.Changes.{replaced, cut}
+use Rattle.segments.specs.Rows.{segmentAt}
 use Rattle.segments.proofs.Replacing.{cut-length}
 use Rattle.segments.proofs.Rewriting.{rows-grown, cut-rows}
 use Rattle.model.specs.declared.Segment.{Segment}
 use borrow.Author.Needs.{needs}
 use Rattle.segments.proofs.split_row.Statement.{statement}
 use Rattle.segments.proofs.split_row.Tie as tie
-use Rattle.segments.proofs.split_row.Reads as reads
-use Rattle.segments.proofs.split_row.Lts as lts
-use Rattle.segments.proofs.insert_gap.Reads as insert-gap-reads
-use Rattle.segments.proofs.put_row.Reads as put-row-reads
-use Rattle.segments.proofs.row.Reads as row-reads
 
--- src/lib.rt:327:9
 row-requires : tie.Need-row-requires
 row-requires c κs =
     let a = c .before .before .args in
     omega (arith, cut-length (segmentAt (a .table .now) (a .i)) (a .block))
 
--- src/lib.rt:328:15
 add-end : tie.Need-add-end
 add-end c = omega (arith, ap (λ (x : Segment). x .start + x .length) (c .before .row .ensures), c .before .before .before .before .pre .2)
 
--- src/lib.rt:329:21
 add-block-end : tie.Need-add-block-end
 add-block-end c = search needs
 
--- src/lib.rt:330:5
 put-row-requires : tie.Need-put-row-requires
 put-row-requires c κs =
     let a = c .before .before .before .before .before .before .args in
     omega (arith, cut-length (segmentAt (a .table .now) (a .i)) (a .block))
 
--- src/lib.rt:331:37
 add-insert-gap : tie.Need-add-insert-gap
 add-insert-gap c = search needs
 
--- src/lib.rt:331:9
 insert-gap-requires : tie.Need-insert-gap-requires
 insert-gap-requires c κs =
     let a = c .before .before .before .before .before .before .before .before .before .before .args in
     let s = c .before .before .before .before .before .before .before .row in
     (omega arith, omega (arith, cut-length (segmentAt (a .table .now) (a .i)) (a .block), ap (λ (x : Segment). length (gap (a .block .start + a .block .length) (x .start + x .length))) (s .ensures)))
 
--- src/lib.rt:332:5
 insert-gap-requires-2 : tie.Need-insert-gap-requires-2
 insert-gap-requires-2 c κs =
     let a = c .before .before .before .before .before .before .before .before .before .before .before .before .before .before .args in
@@ -56,11 +45,9 @@ insert-gap-requires-2 c κs =
     let grown = rows-grown (a .i + 1) (gap (a .block .start + a .block .length) (s .result .start + s .result .length)) (omega arith) (c .before .before .before .insert-gap .ensures) in
     (omega arith, omega (arith, cut-length (segmentAt (a .table .now) (a .i)) (a .block), ap (λ (x : Segment). length (gap (x .start) (a .block .start))) (s .ensures), ap (λ (x : Segment). length (gap (a .block .start + a .block .length) (x .start + x .length))) (s .ensures)))
 
--- src/lib.rt:319:1
 same-length : tie.Need-same-length
 same-length c = search needs
 
--- src/lib.rt:319:1
 returns : tie.Need-returns
 returns c =
     let p = c .before .before .before .before .before .before .before .before .before .before .before .before .before .before .before .before .before in
