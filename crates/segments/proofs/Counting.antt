@@ -11,7 +11,8 @@ use lib.Seq.{getD-set-same, getD-set-other}
 use borrow.Author.Tests.{eqb-true, ne-eqb, eq-eqb}
 use Rattle.model.specs.SegmentMap.{isFree}
 use Rattle.model.proofs.Choosing.{split, tests}
-use Rattle.segments.specs.Counting.{followsOf, brokenOf, freeOf, liveOf, countedOf, Bounded}
+use Rattle.segments.specs.Counting.{Bounded}
+use Rattle.segments.specs.Steps.{followsOf, brokenOf, freeOf, liveOf, countedOf}
 use Rattle.segments.proofs.Following.{Follows, follows-true}
 use Rattle.model.specs.declared.Segment.{Segment}
 use Rattle.segments.specs.declared.Census.{Census}

@@ -16,7 +16,8 @@ use Rattle.model.specs.SegmentMap.{isFree, isLive, mapFrom}
 use Rattle.model.proofs.Choosing.{split, tests, clash, parts, both-true, every-head, length-total}
 use Rattle.segments.specs.Rows.{segmentsIn}
 use Rattle.segments.specs.Tiling.{tiles, wellFormed, isMap}
-use Rattle.segments.specs.Counting.{ofGranules, followsOf, brokenOf, freeOf, liveOf, Bounded, Counted}
+use Rattle.segments.specs.Counting.{Bounded, Counted}
+use Rattle.segments.specs.Steps.{ofGranules, followsOf, brokenOf, freeOf, liveOf}
 use Rattle.segments.proofs.TilesMap.{First, first, map-back}
 use Rattle.segments.proofs.Reading.{tiles-le}
 use Rattle.segments.proofs.Apart.{apartFrom, apart-all}

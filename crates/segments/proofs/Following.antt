@@ -12,7 +12,7 @@ use Rattle.model.specs.Allocation.{granulesFor}
 use Rattle.model.specs.SegmentMap.{isFree}
 use Rattle.model.proofs.Choosing.{split, tests, same-test, parts, both-true}
 use Rattle.segments.specs.Tiling.{requestedFits, wellFormed}
-use Rattle.segments.specs.Counting.{ofGranules, followsOf}
+use Rattle.segments.specs.Steps.{ofGranules, followsOf}
 use Rattle.model.specs.declared.Segment.{Segment}
 use Rattle.segments.specs.declared.Census.{Census}
 

@@ -15,6 +15,7 @@ pub mod Counting
 pub mod Counts
 pub mod Moved
 pub mod Replacing
+pub mod Words
 pub mod Rewriting
 pub mod Parted
 pub mod Splitting

@@ -1,12 +1,12 @@
 -- A start padded to the next boundary.
 -- Assumes nothing.
+use Rattle.segments.specs.Steps.{padding}
 use mathlib.Core.Path.{_≡_}
 use Prim.Native.Nat.{ℕ, _+_, _*_, _/_, _%_, _-_, _≤_, _<_}
 use native.Mathlib.Nat.{div-add-mod', mod-lt, mod-self, mod-eq-of-lt, mul-mod-left, mul-le-mul-right}
 use native.Mathlib.Omega.{arith}
 use lib.Dec.{leb, eqb}
 use Rattle.model.proofs.Choosing.{split, tests}
-use Rattle.segments.specs.Search.{padding}
 
 -- a start with its padding is a multiple of m
 padded-multiple : (m s : ℕ) → 1 ≤ m → (q : ℕ) × (s + padding m s ≡ q * m)

@@ -17,7 +17,8 @@ use Rattle.model.proofs.Ordered.{Ordered, after-clear, clear-before, clear-all}
 use Rattle.model.proofs.Served.{alignment-granules}
 use Rattle.segments.specs.Rows.{segmentAt, segmentsIn, blocksIn}
 use Rattle.segments.specs.Tiling.{tiles, wellFormed, noTwoFree, isMap}
-use Rattle.segments.specs.Search.{padding, startOf, Found}
+use Rattle.segments.specs.Search.{startOf, Found}
+use Rattle.segments.specs.Steps.{padding}
 use Rattle.segments.proofs.TilesMap.{First, first, ordered-back, apart-tail}
 use Rattle.segments.proofs.Reading.{rest, rest-row, rest-none, every-row, tiles-le, endsBy, tiles-end}
 use Rattle.segments.proofs.Padding.{Padded, padded}

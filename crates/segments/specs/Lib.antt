@@ -5,3 +5,4 @@ pub mod Tiling
 pub mod Search
 pub mod Counting
 pub mod Changes
+pub mod Steps

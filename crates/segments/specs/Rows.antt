@@ -34,14 +34,6 @@ blocksIn n ws = only isLive (segmentsIn n ws)
 abbrev pub withRow : List ℕ → ℕ → Segment → List ℕ
 withRow ws i x = take (4 * i) ws ++ (wordsOf (x ∷ []) ++ drop (4 * i + 4) ws)
 
--- A part of a table in which a row is opened: its first n words stand one row higher, over the row after them; the first row stays as it was.
-abbrev pub opened : ℕ → List ℕ → List ℕ
-opened n ws = take 4 ws ++ (take n ws ++ drop (n + 4) ws)
-
--- A part of a table in which its first row is closed: the n words after that row stand one row lower, and the row that they leave is zero.
-abbrev pub closed : ℕ → List ℕ → List ℕ
-closed n ws = take n (drop 4 ws) ++ (replicate 4 0 ++ drop (n + 4) ws)
-
 -- A table whose first n rows were in use has these rows in use instead: a row that falls out of use is zero, and every word after both stays.
 abbrev pub withRows : ℕ → List ℕ → List Segment → List ℕ
 withRows n ws xs = wordsOf xs ++ (replicate (4 * (n - length xs)) 0 ++ drop (4 * max n (length xs)) ws)

@@ -1,6 +1,6 @@
 -- What is looked for in the rows: the row of a granule, and the place that first fit names.
 -- Assumes nothing.
-use Prim.Native.Nat.{ℕ, _+_, _-_, _%_, _≤_, _<_}
+use Prim.Native.Nat.{ℕ, _+_, _≤_, _<_}
 use mathlib.Core.Path.{_≡_}
 use mathlib.Core.Bool.{Bool, true}
 use mathlib.Core.List.{List}
@@ -10,7 +10,7 @@ use Rattle.model.specs.Choose.{both}
 use Rattle.model.specs.Quantities.{Config}
 use Rattle.model.specs.Allocation.{lowestStart}
 use Rattle.segments.specs.Rows.{segmentAt, segmentsIn, blocksIn}
-use Rattle.segments.specs.Tiling.{tiles, isMap}
+use Rattle.segments.specs.Tiling.{tiles}
 use Rattle.model.specs.declared.Segment.{Segment}
 use Rattle.segments.specs.declared.Fit.{Fit}
 use Rattle.segments.specs.declared.Fit.the-variants as fit
@@ -23,10 +23,6 @@ hasGranule x s = both (leb (s .start) x) (ltb x (s .start + s .length))
 pub record RowOf (n x : ℕ) (ws : List ℕ) (row : ℕ) : Type 0 where
   pub inUse : row < n
   pub has : (e : ℕ) → tiles 0 e (segmentsIn n ws) ≡ true → x < e → hasGranule x (segmentAt ws row) ≡ true
-
--- From s it is so many granules to the next multiple of m, none if s is one.
-abbrev pub padding : ℕ → ℕ → ℕ
-padding m s = (m - s % m) % m
 
 -- The start of a fit.
 abbrev pub startOf : Fit → Option ℕ

@@ -10,11 +10,12 @@ ghost use Rattle.model.specs.Quantities.{Config, isAlignment};
 ghost use Rattle.model.specs.Allocation.{granulesFor, granulesOf};
 ghost use Rattle.model.specs.Arena.{written};
 ghost use Rattle.model.specs.SegmentMap.{freeRun, gap};
-ghost use Rattle.segments.specs.Rows.{wordsOf, segmentAt, segmentsIn, withRow, opened, closed, withRows, Rewritten};
+ghost use Rattle.segments.specs.Rows.{wordsOf, segmentAt, segmentsIn, withRow, withRows, Rewritten};
 ghost use Rattle.segments.specs.Tiling.{isMap};
-ghost use Rattle.segments.specs.Search.{padding, RowOf, Found};
-ghost use Rattle.segments.specs.Counting.{followsOf, countedOf, brokenOf, freeOf, liveOf, Bounded, Counted};
+ghost use Rattle.segments.specs.Search.{RowOf, Found};
+ghost use Rattle.segments.specs.Counting.{Bounded, Counted};
 ghost use Rattle.segments.specs.Changes.{replaced, inserted, removed, cut, joined, released};
+ghost use Rattle.segments.specs.Steps.{opened, closed, padding, followsOf, countedOf, brokenOf, freeOf, liveOf};
 use model::Segment;
 use model::granules_for;
 

@@ -1,12 +1,12 @@
 -- `segments::counted` meets its contract: each return is one of the four cases of the count with a row more.
 -- Assumes nothing.
+use Rattle.segments.specs.Steps.{followsOf}
 use mathlib.Core.Path.{_≡_, sym, _∙_}
 use mathlib.Core.Bool.{true}
 use Prim.Native.Nat.{ℕ}
 use native.Mathlib.Omega.{arith}
 use borrow.Author.Tests.{not-true, not-false}
 use borrow.Author.Needs.{needs}
-use Rattle.segments.specs.Counting.{followsOf}
 use Rattle.segments.proofs.Following.{Follows, follows-true}
 use Rattle.segments.proofs.Counting.{counted-not, counted-broken, counted-free, counted-live, counted-so, passed-bounded}
 use Rattle.model.specs.declared.Segment.{Segment}

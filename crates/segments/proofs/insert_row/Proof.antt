@@ -5,8 +5,9 @@ use mathlib.Core.List.{List, _++_}
 use Prim.Native.Nat.{ℕ, _*_, _-_}
 use native.Mathlib.Omega.{arith}
 use lib.ListN.{take}
-use Rattle.segments.specs.Rows.{withRow, opened}
-use Rattle.segments.proofs.Rewriting.{part-lent, part-back, row-more}
+use Rattle.segments.specs.Rows.{withRow}
+use Rattle.segments.specs.Steps.{opened}
+use Rattle.segments.proofs.Words.{part-lent, part-back, row-more}
 use borrow.Author.Needs.{needs}
 use Rattle.segments.proofs.insert_row.Statement.{statement}
 use Rattle.segments.proofs.insert_row.Tie as tie

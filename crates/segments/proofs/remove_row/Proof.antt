@@ -1,12 +1,12 @@
 -- `segments::remove_row` meets its contract: a row closed in the part from row `i` on.
 -- Assumes nothing.
+use Rattle.segments.specs.Steps.{closed}
 use mathlib.Core.Path.{ap, _∙_}
 use mathlib.Core.List.{List, _++_}
 use Prim.Native.Nat.{ℕ, _*_, _-_}
 use native.Mathlib.Omega.{arith}
 use lib.ListN.{take}
-use Rattle.segments.specs.Rows.{closed}
-use Rattle.segments.proofs.Rewriting.{part-lent, part-back, row-less}
+use Rattle.segments.proofs.Words.{part-lent, part-back, row-less}
 use borrow.Author.Needs.{needs}
 use Rattle.segments.proofs.remove_row.Statement.{statement}
 use Rattle.segments.proofs.remove_row.Tie as tie

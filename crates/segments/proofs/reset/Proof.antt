@@ -5,7 +5,7 @@ use mathlib.Core.List.{List}
 use Prim.Native.Nat.{ℕ}
 use lib.ListN.{length, replicate}
 use Rattle.segments.specs.Rows.{withRow}
-use Rattle.segments.proofs.Rewriting.{row-zeros}
+use Rattle.segments.proofs.Words.{row-zeros}
 use Rattle.model.specs.declared.Segment.{Segment}
 use borrow.Author.Needs.{needs}
 use Rattle.segments.proofs.reset.Statement.{statement}

@@ -6,7 +6,8 @@ use Prim.Native.Nat.{ℕ, _+_, _-_, _≤_, _<_}
 use native.Mathlib.Omega.{arith}
 use borrow.Author.Needs.{needs}
 use Rattle.segments.specs.Rows.{segmentAt, segmentsIn}
-use Rattle.segments.specs.Counting.{countedOf, Bounded}
+use Rattle.segments.specs.Counting.{Bounded}
+use Rattle.segments.specs.Steps.{countedOf}
 use Rattle.segments.proofs.Reading.{rest, rest-row, rest-none}
 use Rattle.segments.proofs.Counting.{noneCounted, countAll, none-bounded}
 use Rattle.segments.proofs.Counts.{no-map, whole}
