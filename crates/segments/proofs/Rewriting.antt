@@ -23,28 +23,27 @@ module _ (n : ℕ) (ws : List ℕ) (fits : 4 * n ≤ length ws) (i : ℕ) where
 
   -- A gap inserted, or none.
   pub gap-more : (from to : ℕ) (run : Segment) (after : List ℕ) → i ≤ n → from < to → run ≡ freeRun from (to - from) → after ≡ withRows n ws (inserted i run segs)
-      → Rewritten n ws (replaced i 0 (gap from to) segs) (n + 1) after
+      → (n + 1 ≡ n + length (gap from to)) × Rewritten n ws (replaced i 0 (gap from to) segs) (n + 1) after
   gap-more from to run after h k r e =
-      let g : run ∷ [] ≡ gap from to = ap (λ (x : Segment). x ∷ []) r ∙ sym (gap-some from to k) in
-      record {
-        rows = sym (ap (λ (q : List Segment). length (replaced i 0 q segs)) (sym g) ∙ replaced-count n ws fits i 0 (run ∷ []) (omega arith) ∙ omega arith);
-        words = e ∙ ap (λ (q : List Segment). withRows n ws (replaced i 0 q segs)) g;
-      }
+      let g : run ∷ [] ≡ gap from to = ap (λ (x : Segment). x ∷ []) r ∙ sym (gap-some from to k) in (
+        ap (λ (q : List Segment). n + length q) g,
+        record {
+          rows = sym (ap (λ (q : List Segment). length (replaced i 0 q segs)) (sym g) ∙ replaced-count n ws fits i 0 (run ∷ []) (omega arith) ∙ omega arith);
+          words = e ∙ ap (λ (q : List Segment). withRows n ws (replaced i 0 q segs)) g;
+        },
+      )
 
-  pub gap-less : (from to : ℕ) → to ≤ from → Rewritten n ws (replaced i 0 (gap from to) segs) n ws
+  pub gap-less : (from to : ℕ) → to ≤ from → (n ≡ n + length (gap from to)) × Rewritten n ws (replaced i 0 (gap from to) segs) n ws
   gap-less from to k =
-      let g : segs ≡ replaced i 0 (gap from to) segs = sym (ap (λ (q : List Segment). replaced i 0 q segs) (gap-none from to k) ∙ replaced-none i segs) in
-      record { rows = sym (ap length (sym g) ∙ length-segments n ws); words = sym (rows-same n ws fits i) ∙ ap (withRows n ws) g }
+      let g : segs ≡ replaced i 0 (gap from to) segs = sym (ap (λ (q : List Segment). replaced i 0 q segs) (gap-none from to k) ∙ replaced-none i segs) in (
+        omega (arith, ap length (gap-none from to k)),
+        record { rows = sym (ap length (sym g) ∙ length-segments n ws); words = sym (rows-same n ws fits i) ∙ ap (withRows n ws) g },
+      )
 
 -- The rows of a table that was rewritten are those written.
 pub rows-read : {n m : ℕ} {ws after : List ℕ} {xs : List Segment} → Rewritten n ws xs m after → segmentsIn m after ≡ xs
 rows-read {n} {m} {ws} {after} {xs} r =
     (λ j. segmentsIn (r .rows j) (r .words j)) ∙ read-back xs (replicate (4 * (n - length xs)) 0 ++ drop (4 * max n (length xs)) ws)
-
--- Rows inserted are so many rows more.
-pub rows-grown : {n m : ℕ} {ws after : List ℕ} (i : ℕ) (new : List Segment) → i ≤ n → Rewritten n ws (replaced i 0 new (segmentsIn n ws)) m after → m ≡ n + length new
-rows-grown {n} {m} {ws} i new h r =
-    r .rows ∙ length-replaced i 0 new (segmentsIn n ws) (omega (arith, length-segments n ws)) ∙ omega (arith, length-segments n ws)
 
 module _ {n m k : ℕ} {ws part after : List ℕ} {xs : List Segment} (f : List Segment → List Segment)
     (r : Rewritten n ws xs m part) (q : Rewritten m part (f (segmentsIn m part)) k after) where

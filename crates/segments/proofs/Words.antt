@@ -69,12 +69,12 @@ module _ (n : ℕ) (ws : List ℕ) (xs : List Segment) where
 pub length-replaced : (i k : ℕ) (new xs : List Segment) → i + k ≤ length xs → length (replaced i k new xs) ≡ length xs - k + length new
 length-replaced i k new xs h = simp (length-append, length-take, length-drop) (omega arith)
 
--- A part lent to a call, from a place to the end, and put back.
+-- a part lent to a call, from a place to the end, and put back
 module _ (ws : List ℕ) (a : ℕ) (h : a ≤ length ws) where
-  pub part-lent : midOf a (length ws - a) ws ≡ drop a ws
+  part-lent : midOf a (length ws - a) ws ≡ drop a ws
   part-lent = take-all (length ws - a) (drop a ws) (omega (arith, length-drop a ws))
 
-  pub part-back : (part : List ℕ) → putMid a (length ws - a) ws part ≡ take a ws ++ part
+  part-back : (part : List ℕ) → putMid a (length ws - a) ws part ≡ take a ws ++ part
   part-back part =
       let none : drop (length ws - a) (drop a ws) ≡ [] = drop-of-length-le (drop a ws) {i = length ws - a} (omega (arith, length-drop a ws)) in
       ap (λ (q : List ℕ). take a ws ++ (part ++ q)) none ∙ ap (λ (q : List ℕ). take a ws ++ q) (append-nil part)
@@ -106,8 +106,8 @@ module _ (n : ℕ) (ws : List ℕ) (fits : 4 * n ≤ length ws) (i : ℕ) where
       ∙ words-replaced n ws i 1 (x ∷ []) (drop (4 * n) ws) fits (omega arith)
       ∙ rw m (ap (λ (q : List ℕ). take (4 * i) ws ++ (wordsOf (x ∷ []) ++ q)) back))
 
-  -- One row opened and set.
-  pub row-more : (x : Segment) → 4 * n + 4 ≤ length ws → i ≤ n
+  -- one row opened and set
+  row-more : (x : Segment) → 4 * n + 4 ≤ length ws → i ≤ n
       → withRow (take (4 * i) ws ++ opened (4 * (n - i)) (drop (4 * i) ws)) i x ≡ withRows n ws (inserted i x segs)
   row-more x room h =
       let p : List ℕ = drop (4 * i) ws in
@@ -129,8 +129,8 @@ module _ (n : ℕ) (ws : List ℕ) (fits : 4 * n ≤ length ws) (i : ℕ) where
       ∙ words-replaced n ws i 0 (x ∷ []) (drop (4 * (n + 1)) ws) fits (omega arith)
       ∙ ap (λ (q : ℕ). take (4 * i) ws ++ (wordsOf (x ∷ []) ++ (take (4 * (n - q)) (drop (4 * q) ws) ++ drop (4 * (n + 1)) ws))) z)
 
-  -- One row closed.
-  pub row-less : i < n → take (4 * i) ws ++ closed (4 * (n - i - 1)) (drop (4 * i) ws) ≡ withRows n ws (removed i segs)
+  -- one row closed
+  row-less : i < n → take (4 * i) ws ++ closed (4 * (n - i - 1)) (drop (4 * i) ws) ≡ withRows n ws (removed i segs)
   row-less h =
       let l : length (removed i segs) ≡ n - 1 = replaced-count 1 [] (omega arith) ∙ omega arith in
       let four : 4 * (n - (n - 1)) ≡ 4 = omega arith in
@@ -144,6 +144,23 @@ module _ (n : ℕ) (ws : List ℕ) (fits : 4 * n ≤ length ws) (i : ℕ) where
       ∙ ap (λ (q : ℕ). wordsOf (removed i segs) ++ (replicate (4 * (n - q)) 0 ++ drop (4 * n) ws)) l
       ∙ ap (λ (q : ℕ). wordsOf (removed i segs) ++ (replicate q 0 ++ drop (4 * n) ws)) four
       ∙ words-replaced n ws i 1 [] (replicate 4 0 ++ drop (4 * n) ws) fits (omega arith))
+
+  -- A row opened in the part from row i on, and set.
+  pub opened-rows : (x : Segment) (part after : List ℕ) → part ≡ opened (4 * (n - i)) (midOf (4 * i) (length ws - 4 * i) ws)
+      → after ≡ withRow (putMid (4 * i) (length ws - 4 * i) ws part) i x → 4 * n + 4 ≤ length ws → i ≤ n → after ≡ withRows n ws (inserted i x segs)
+  opened-rows x part after e q room h =
+      q
+      ∙ ap (λ (t : List ℕ). withRow t i x)
+      (part-back ws (4 * i) (omega arith) part ∙ ap (λ (p : List ℕ). take (4 * i) ws ++ p) (e ∙ ap (opened (4 * (n - i))) (part-lent ws (4 * i) (omega arith))))
+      ∙ row-more x room h
+
+  -- A row closed in the part from row i on.
+  pub closed-rows : (part : List ℕ) → part ≡ closed (4 * (n - i - 1)) (midOf (4 * i) (length ws - 4 * i) ws) → i < n
+      → putMid (4 * i) (length ws - 4 * i) ws part ≡ withRows n ws (removed i segs)
+  closed-rows part e h =
+      part-back ws (4 * i) (omega arith) part
+      ∙ ap (λ (p : List ℕ). take (4 * i) ws ++ p) (e ∙ ap (closed (4 * (n - i - 1))) (part-lent ws (4 * i) (omega arith)))
+      ∙ row-less h
 
   -- The rows as they are.
   pub rows-same : withRows n ws segs ≡ ws

@@ -306,7 +306,7 @@ pub fn pieces(s: Segment, block: Segment) -> usize
 // A free row at row i for the granules from `from` up to `to`, if there are any; answers the rows in use.
 fn insert_gap(table: &mut [u32], rows: usize, i: usize, from: u32, to: u32) -> usize
     requires { do ⌜ (i ≤ rows) × (4 * (rows + length (gap from to)) ≤ (← ⟦table.len()⟧)) ⌝ }
-    ensures { λ r. ⌜ Rewritten rows (now (table .entry)) (replaced i 0 (gap from to) (segmentsIn rows (now (table .entry)))) r (now (table .exit)) ⌝ }
+    ensures { λ r. ⌜ (r ≡ rows + length (gap from to)) × Rewritten rows (now (table .entry)) (replaced i 0 (gap from to) (segmentsIn rows (now (table .entry)))) r (now (table .exit)) ⌝ }
 {
     if from < to {
         let run = free_run(from, to - from);

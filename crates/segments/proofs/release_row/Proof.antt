@@ -38,7 +38,7 @@ returns : tie.Need-returns
 returns c =
     let p = c .before .before .before .before .before .before .before .before .before .before .before .before .before .before .before .before .before in
     released-rows (p .args .rows) (p .args .table .now) (p .pre .1) (p .args .i) (p .pre .0) _ _ _ (c .before .before .before .before .before .before .before .before .before .before .before .before .before .before .row .ensures) (c .before .before .before .before .before .before .before .before .before .before .before .before .before .free-run .ensures) (c .before .before .before .before .before .before .before .before .before .before .before .put-row .ensures) _ _ (c .before .before .before .before .before .before .before .join-rows .ensures)
-    (c .before .before .before .before .if1 .taken) _ _ (c .before .before .join-rows2 .ensures)
+    (omega (arith, c .before .before .before .before .if1 .taken)) _ _ (c .before .before .join-rows2 .ensures)
 
 same-length-2 : tie.Need-same-length-2
 same-length-2 c = search needs
@@ -46,7 +46,7 @@ same-length-2 c = search needs
 returns-2 : tie.Need-returns-2
 returns-2 c =
     let p = c .before .before .before .before .before .before .before .before .before .before .before .before .before in
-    released-first (p .args .rows) (p .args .table .now) (p .pre .1) (p .args .i) (p .pre .0) _ _ _ (c .before .before .before .before .before .before .before .before .before .before .row .ensures) (c .before .before .before .before .before .before .before .before .before .free-run .ensures) (c .before .before .before .before .before .before .before .put-row .ensures) _ _ (c .before .before .before .join-rows .ensures) (c .if1 .left)
+    released-first (p .args .rows) (p .args .table .now) (p .pre .1) (p .args .i) (p .pre .0) _ _ _ (c .before .before .before .before .before .before .before .before .before .before .row .ensures) (c .before .before .before .before .before .before .before .before .before .free-run .ensures) (c .before .before .before .before .before .before .before .put-row .ensures) _ _ (c .before .before .before .join-rows .ensures) (omega arith)
 
 pub release-row-spec : {M : Type 1} → statement M
 release-row-spec =

@@ -1,12 +1,6 @@
 -- `segments::remove_row` meets its contract: a row closed in the part from row `i` on.
 -- Assumes nothing.
-use Rattle.segments.specs.Steps.{closed}
-use mathlib.Core.Path.{ap, _∙_}
-use mathlib.Core.List.{List, _++_}
-use Prim.Native.Nat.{ℕ, _*_, _-_}
-use native.Mathlib.Omega.{arith}
-use lib.ListN.{take}
-use Rattle.segments.proofs.Words.{part-lent, part-back, row-less}
+use Rattle.segments.proofs.Words.{closed-rows}
 use borrow.Author.Needs.{needs}
 use Rattle.segments.proofs.remove_row.Statement.{statement}
 use Rattle.segments.proofs.remove_row.Tie as tie
@@ -43,14 +37,8 @@ same-length c = search needs
 
 returns : tie.Need-returns
 returns c =
-    let o = c .before .before .close-row in
     let p = c .before .before .before .before .before in
-    let a = p .args in
-    let ws = a .table .now in
-    let at : ℕ = 4 * a .i in
-    part-back ws at (omega arith) (o .last .0)
-    ∙ ap (λ (q : List ℕ). take at ws ++ q) (o .ensures ∙ ap (closed (4 * (a .rows - a .i - 1))) (part-lent ws at (omega arith)))
-    ∙ row-less (a .rows) ws (p .pre .1) (a .i) (p .pre .0)
+    closed-rows (p .args .rows) (p .args .table .now) (p .pre .1) (p .args .i) _ (c .before .before .close-row .ensures) (p .pre .0)
 
 pub remove-row-spec : {M : Type 1} → statement M
 remove-row-spec =

@@ -7,7 +7,7 @@ use lib.ListN.{length}
 use Rattle.model.specs.SegmentMap.{gap}
 use Rattle.segments.specs.Rows.{segmentAt}
 use Rattle.segments.proofs.Replacing.{cut-length}
-use Rattle.segments.proofs.Rewriting.{rows-grown, cut-rows}
+use Rattle.segments.proofs.Rewriting.{cut-rows}
 use Rattle.model.specs.declared.Segment.{Segment}
 use borrow.Author.Needs.{needs}
 use Rattle.segments.proofs.split_row.Statement.{statement}
@@ -42,7 +42,6 @@ insert-gap-requires-2 : tie.Need-insert-gap-requires-2
 insert-gap-requires-2 c κs =
     let a = c .before .before .before .before .before .before .before .before .before .before .before .before .before .before .args in
     let s = c .before .before .before .before .before .before .before .before .before .before .before .row in
-    let grown = rows-grown (a .i + 1) (gap (a .block .start + a .block .length) (s .result .start + s .result .length)) (omega arith) (c .before .before .before .insert-gap .ensures) in
     (omega arith, omega (arith, cut-length (segmentAt (a .table .now) (a .i)) (a .block), ap (λ (x : Segment). length (gap (x .start) (a .block .start))) (s .ensures), ap (λ (x : Segment). length (gap (a .block .start + a .block .length) (x .start + x .length))) (s .ensures)))
 
 same-length : tie.Need-same-length
@@ -53,7 +52,7 @@ returns c =
     let p = c .before .before .before .before .before .before .before .before .before .before .before .before .before .before .before .before .before in
     let a = p .args in
     cut-rows (a .rows) (a .table .now) (omega (arith, cut-length (segmentAt (a .table .now) (a .i)) (a .block))) (a .i) (p .pre .0) _ (a .block) _ _ _ _ _
-    (c .before .before .before .before .before .before .before .before .before .before .before .before .before .before .row .ensures) (c .before .before .before .before .before .before .before .before .before .before .put-row .ensures) (c .before .before .before .before .before .before .insert-gap .ensures) (c .before .before .insert-gap2 .ensures)
+    (c .before .before .before .before .before .before .before .before .before .before .before .before .before .before .row .ensures) (c .before .before .before .before .before .before .before .before .before .before .put-row .ensures) (c .before .before .before .before .before .before .insert-gap .ensures .1) (c .before .before .insert-gap2 .ensures .1)
 
 pub split-row-spec : {M : Type 1} → statement M
 split-row-spec =
