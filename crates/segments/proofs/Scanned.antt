@@ -140,8 +140,8 @@ module _ (c : Config) {n g a i : ℕ} {ws : List ℕ} (ok : isMap c (segmentsIn 
   pub found-none : n ≤ i → Found c n g a ws fit.Nothing
   found-none h = record { lowest = lowest c n g a ws ok hg al ∙ ap startOf (p .same ∙ ap (firstHit g (a / 16) i) (rest-none n i ws h)); room = tt }
 
-  -- Row i is a hit: in a map of so small an arena the sum that is its start does not wrap.
-  pub found-at : c .granules ≤ 65536 → i < n → (x : Segment) → x ≡ segmentAt ws i → hit g (a / 16) x ≡ true
+  -- Row i is a hit: it ends in the arena, so the sum that is its start does not wrap.
+  pub found-at : c .granules ≤ 4294967295 → i < n → (x : Segment) → x ≡ segmentAt ws i → hit g (a / 16) x ≡ true
       → (s : ℕ) → s ≡ (x .start + padding (a / 16) (x .start)) % 2 ^ 32 → Found c n g a ws (fit.At i s)
   found-at small h x e q s w =
       let t : tiles 0 (c .granules) (segmentsIn n ws) ≡ true = search parts in

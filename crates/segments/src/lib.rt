@@ -140,26 +140,26 @@ fn padding_of(start: u32, unit: u32) -> u32
 // First fit: the first free row with room for `need` granules on a boundary of `align` bytes.
 pub fn first_fit(table: &[u32], rows: usize, need: u32, align: u32) -> Fit
     requires { do ⌜ (4 * rows ≤ (← ⟦table.len()⟧)) × (1 ≤ need) × (need + align ≤ 4294967295) × (isAlignment align ≡ true) ⌝ }
-    ensures { λ r. ⌜ ((c : Config) → c .granules ≤ 65536 → isMap c (segmentsIn rows (now (table .entry))) ≡ true → Found c rows need align (now (table .entry)) r) ⌝ }
+    ensures { λ r. ⌜ ((c : Config) → c .granules ≤ 4294967295 → isMap c (segmentsIn rows (now (table .entry))) ≡ true → Found c rows need align (now (table .entry)) r) ⌝ }
 {
     let unit = align / 16;
-    let mut found = Fit::Nothing;
     let mut i: usize = 0;
-    while i < rows {
+    loop {
+        if rows <= i {
+            break Fit::Nothing;
+        }
         let s = row(table, i);
         if s.owner == 0 {
             let skipped = padding_of(s.start, unit);
             if skipped + need <= s.length {
-                found = Fit::At {
+                break Fit::At {
                     row: i,
                     start: std::num::wrapping_add_u32(s.start, skipped),
                 };
-                break;
             }
         }
         i += 1;
     }
-    found
 }
 
 // The row may follow those counted.

@@ -1,24 +1,23 @@
 -- `segments::first_fit` meets its contract. The loop's invariant: no row before row `i` is a hit.
 -- The measure is the rows left. Assumes nothing.
-use mathlib.Core.Path.{_≡_, refl, ap, _∙_}
+use mathlib.Core.Path.{ap, _∙_}
 use mathlib.Core.Logic.{⊎-elim}
 use Prim.Native.Nat.{ℕ, _+_, _-_, _%_, _^_, _≤_}
 use native.Mathlib.Omega.{arith}
 use borrow.Author.Tests.{eq-eqb, ne-eqb, le-leb, lt-leb}
 use Rattle.model.proofs.Served.{alignment-granules}
 use Rattle.segments.proofs.Scanned.{Passed, passed-none, passed-one, found-none, found-at}
-use Rattle.segments.specs.declared.Fit.the-variants as fit
 use Rattle.segments.proofs.first_fit.Statement.{statement}
 use Rattle.segments.proofs.first_fit.Tie as tie
 
 abbrev Inv-loop : tie.InvT-loop
-Inv-loop table rows need align unit found₀ i₀ found i = (i ≤ rows) × (found ≡ fit.Nothing) × Passed need unit rows i table
+Inv-loop table rows need align unit i₀ i = (i ≤ rows) × Passed need unit rows i table
 
 abbrev μ-loop : tie.MeasureT-loop
-μ-loop table rows need align unit found₀ i₀ found i = rows - i
+μ-loop table rows need align unit i₀ i = rows - i
 
 loop-holds : tie.Need-loop-holds Inv-loop μ-loop
-loop-holds c = (omega arith, refl, passed-none _ _ _ _)
+loop-holds c = (omega arith, passed-none _ _ _ _)
 
 row-requires : tie.Need-row-requires Inv-loop μ-loop
 row-requires c κs = omega arith
@@ -26,8 +25,8 @@ row-requires c κs = omega arith
 padding-of-requires : tie.Need-padding-of-requires Inv-loop μ-loop
 padding-of-requires c κs = alignment-granules _ (c .before .before .before .before .before .before .pre .3) .0
 
-add-if2 : tie.Need-add-if2 Inv-loop μ-loop
-add-if2 c = omega arith
+add-if3 : tie.Need-add-if3 Inv-loop μ-loop
+add-if3 c = omega arith
 
 wrapping-add-u32-requires : tie.Need-wrapping-add-u32-requires Inv-loop μ-loop
 wrapping-add-u32-requires c κs = tt
@@ -43,19 +42,17 @@ loop-again c =
     let l = c .before .before .before .before .loop in
     let r = c .before .before .row in (
       omega arith,
-      l .inv .1,
-      passed-one (l .inv .2) (omega arith) (r .result) (r .ensures)
+      passed-one (l .inv .1) (omega arith) (r .result) (r .ensures)
           (⊎-elim
           (λ w. rw (eq-eqb (r .result .owner) 0 (w .0 .taken)) (omega (arith, lt-leb, w .1 .ensures .0, w .3 .left)))
           (λ w. rw (ne-eqb (r .result .owner) 0 (w .left)))
-          (c .if1 .came)),
+          (c .if2 .came)),
     )
 
 returns : tie.Need-returns Inv-loop μ-loop
 returns c config small ok =
     let s = c .before .before .before in
-    let l = c .before .loop in
-    rw (l .inv .1) (found-none config ok (s .pre .1) (s .pre .3) (l .inv .2) (omega arith))
+    found-none config ok (s .pre .1) (s .pre .3) (c .before .loop .inv .1) (omega arith)
 
 returns-2 : tie.Need-returns-2 Inv-loop μ-loop
 returns-2 c config small ok =
@@ -63,8 +60,8 @@ returns-2 c config small ok =
     let l = c .before .before .before .before .before .before .before .before .loop in
     let r = c .before .before .before .before .before .before .row in
     let p = c .before .before .before .padding-of in
-    found-at config ok (s .pre .1) (s .pre .3) (l .inv .2) small (omega arith) (r .result) (r .ensures)
-    (rw (eq-eqb (r .result .owner) 0 (c .before .before .before .before .if1 .taken)) (omega (arith, le-leb, p .ensures .0)))
+    found-at config ok (s .pre .1) (s .pre .3) (l .inv .1) small (omega arith) (r .result) (r .ensures)
+    (rw (eq-eqb (r .result .owner) 0 (c .before .before .before .before .if2 .taken)) (omega (arith, le-leb, p .ensures .0)))
     (c .wrapping-add-u32 .result) (c .wrapping-add-u32 .ensures ∙ ap (λ (k : ℕ). (r .result .start + k) % 2 ^ 32) (p .ensures .0))
 
 pub first-fit-spec : {M : Type 1} → statement M
@@ -76,7 +73,7 @@ first-fit-spec =
     loop-holds
     row-requires
     padding-of-requires
-    add-if2
+    add-if3
     wrapping-add-u32-requires
     add-i
     loop-less
