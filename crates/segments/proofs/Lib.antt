@@ -20,3 +20,4 @@ pub mod Rewriting
 pub mod Parted
 pub mod Splitting
 pub mod Releasing
+pub mod Finding

@@ -11,7 +11,8 @@ use borrow.Author.Tests.{eqb-true, eq-eqb, le-leb, lt-ltb}
 use Rattle.model.specs.Choose.{every, only}
 use Rattle.model.specs.Quantities.{Config}
 use Rattle.model.specs.SegmentMap.{isFree, isLive, mapOf}
-use Rattle.model.proofs.Choosing.{parts, both-true, every-append, every-front, every-back, only-window}
+use Rattle.model.specs.Allocation.{granulesOf}
+use Rattle.model.proofs.Choosing.{tests, parts, both-true, every-append, every-front, every-back, only-window}
 use Rattle.segments.specs.Tiling.{tiles, wellFormed, noTwoFree, isMap}
 use Rattle.segments.proofs.MapTiles.{tiles-cons}
 use Rattle.segments.proofs.TilesMap.{First, first, map-back}
@@ -57,6 +58,17 @@ tiles-from s t e [] h g = refl
 tiles-from s t e (x ∷ xs) h g =
     let f : First t e x xs = first t e x xs g in
     both-true _ _ (le-leb s (x .start) (omega arith)) (tiles-from s (x .start + x .length) e xs (omega arith) (f .rest))
+
+-- The lengths of the segments of a tiling add up to what they fill.
+pub tiles-granules : (s e : ℕ) (xs : List Segment) → tiles s e xs ≡ true → s + granulesOf xs ≡ e
+tiles-granules s e [] t = omega (tests, eqb-true s e t)
+tiles-granules s e (x ∷ xs) t =
+    let f : First s e x xs = first s e x xs t in
+    omega (arith, tiles-granules (x .start + x .length) e xs (f .rest))
+
+-- In a map that is the arena.
+pub map-granules : (c : Config) (xs : List Segment) → isMap c xs ≡ true → granulesOf xs ≡ c .granules
+map-granules c xs m = omega (arith, tiles-granules 0 (c .granules) xs (search parts))
 
 module _ (c : Config) (before old after : List Segment) where
   -- Rows in the midst of a map: they fill the granules from one to another, and what stands around them is as in the map.

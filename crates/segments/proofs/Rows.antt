@@ -1,12 +1,12 @@
 -- Rows written as words and read back, both ways.
 -- Assumes nothing.
-use mathlib.Core.Path.{_≡_, refl, ap}
+use mathlib.Core.Path.{_≡_, refl, ap, _∙_}
 use mathlib.Core.Bool.{true}
 use mathlib.Core.List.{List, [], _∷_, _++_}
 use Prim.Native.Nat.{ℕ, zero, suc, _*_, _-_, _≤_}
 use native.Mathlib.Omega.{arith}
 use lib.Dec.{eqb}
-use lib.ListN.{length, drop, replicate, length-append, length-replicate}
+use lib.ListN.{length, drop, replicate, length-append, length-replicate, length-drop}
 use lib.Seq.{drop-at}
 use borrow.Author.Tests.{eqb-true}
 use Rattle.model.specs.Choose.{every}
@@ -53,3 +53,12 @@ zeros-back (x ∷ xs) e = let z : 0 ≡ x = eqb-true 0 x (every-head (eqb 0) x x
 -- The rows after those in use are all zero.
 pub rest-zeros : (n : ℕ) (ss : List Segment) → every (eqb 0) (drop (4 * length ss) (tableOf n ss)) ≡ true
 rest-zeros n ss = rw (drop-at (wordsOf ss) (replicate (4 * (n - length ss)) 0) (4 * length ss) (length-words ss)) (zeros (4 * (n - length ss)))
+
+-- A table of so many rows whose words after the first n rows are all zero is the table of the segments in those.
+pub table-back : (capacity n : ℕ) (ws : List ℕ) → length ws ≡ 4 * capacity → n ≤ capacity → every (eqb 0) (drop (4 * n) ws) ≡ true
+    → tableOf capacity (segmentsIn n ws) ≡ ws
+table-back capacity n ws l h z =
+    let k : 4 * (capacity - length (segmentsIn n ws)) ≡ length (drop (4 * n) ws) = omega (arith, length-drop (4 * n) ws, length-segments n ws) in
+    ap (λ (k : ℕ). wordsOf (segmentsIn n ws) ++ replicate k 0) k
+    ∙ ap (λ (q : List ℕ). wordsOf (segmentsIn n ws) ++ q) (zeros-back (drop (4 * n) ws) z)
+    ∙ words-back n ws (omega arith)

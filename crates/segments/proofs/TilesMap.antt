@@ -10,10 +10,10 @@ use lib.ListN.{length}
 use borrow.Author.Tests.{eqb-true, le-ltb, lt-ltb}
 use Rattle.model.specs.Choose.{both, every, only}
 use Rattle.model.specs.Quantities.{within, Config}
-use Rattle.model.specs.SegmentMap.{isLive, freeRun, mapFrom}
+use Rattle.model.specs.SegmentMap.{isLive, freeRun, mapFrom, mapOf}
 use Rattle.model.proofs.Choosing.{split, tests, clash, parts, both-left, both-right, every-head, every-tail}
 use Rattle.model.proofs.Ordered.{Live, Ordered, earlier}
-use Rattle.segments.specs.Tiling.{tiles, requestedFits, wellFormed, noTwoFree}
+use Rattle.segments.specs.Tiling.{tiles, requestedFits, wellFormed, noTwoFree, isMap}
 use Rattle.model.specs.declared.Segment.{Segment}
 
 -- what tiles says of the first
@@ -82,3 +82,12 @@ ordered-back c s (x ∷ xs) t w =
     split (eqb (x .owner) 0)
     (λ q. rw q (earlier c (x .start + x .length) s (only isLive xs) (omega arith) r))
     (λ q. rw q (omega arith, formed-live c x q (f .some) (every-head (wellFormed c) x xs w), r))
+
+module _ (c : Config) (xs : List Segment) (m : isMap c xs ≡ true) where
+  -- Rows that are a map are the map of their live ones.
+  pub map-is : mapOf c (only isLive xs) ≡ xs
+  map-is = map-back c 0 (c .granules) xs (search parts) (search parts) (search parts)
+
+  -- Their live ones are in order, apart, in the arena, and have an owner and bytes that fit.
+  pub map-ordered : Ordered c 0 (only isLive xs)
+  map-ordered = ordered-back c 0 xs (search parts) (search parts)
