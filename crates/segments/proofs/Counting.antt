@@ -9,6 +9,7 @@ use lib.Dec.{eqb}
 use lib.ListN.{length, getD, set, replicate, length-set}
 use lib.Seq.{getD-set-same, getD-set-other}
 use borrow.Author.Tests.{eqb-true, ne-eqb, eq-eqb}
+use Rattle.model.specs.Quantities.{Config}
 use Rattle.model.specs.SegmentMap.{isFree}
 use Rattle.model.proofs.Choosing.{split, tests}
 use Rattle.segments.specs.Counting.{Bounded}
@@ -22,9 +23,9 @@ abbrev pub noneCounted : Census
 noneCounted = record { ok = true; end = 0; «after_free» = false; used = 0; longest = 0; blocks = replicate 8 0; held = replicate 8 0 }
 
 -- The count with more rows.
-abbrev pub countAll : ℕ → Census → List Segment → Census
-countAll g k [] = k
-countAll g k (x ∷ xs) = countAll g (countedOf g k x) xs
+abbrev pub countAll : Config → Census → List Segment → Census
+countAll c k [] = k
+countAll c k (x ∷ xs) = countAll c (countedOf c k x) xs
 
 -- Figures of which one is raised by v are bounded by n more, if v is.
 raised : (l : List ℕ) (j v e n : ℕ) → j < length l → v ≤ n → ((i : ℕ) → getD l i 0 ≤ e) → (i : ℕ) → getD (set l j (getD l j 0 + v)) i 0 ≤ e + n
@@ -42,42 +43,42 @@ module _ (g : ℕ) (k : Census) (b : Bounded g k) where
   pub broken-bounded : Bounded g (brokenOf k)
   broken-bounded = record { end = b .end; used = b .used; longest = b .longest; blocks = b .blocks; held = b .held; blocksEight = b .blocksEight; heldEight = b .heldEight }
 
-module _ (g : ℕ) (k : Census) (x : Segment) where
+module _ (c : Config) (k : Census) (x : Segment) where
   -- After a row that did not follow, the count stays as it is.
-  pub counted-not : k .ok ≡ false → countedOf g k x ≡ k
+  pub counted-not : k .ok ≡ false → countedOf c k x ≡ k
   unfolding countedOf
   counted-not q = rw q
 
   -- A row that does not follow breaks the count.
-  pub counted-broken : k .ok ≡ true → followsOf g k x ≡ false → countedOf g k x ≡ brokenOf k
+  pub counted-broken : k .ok ≡ true → followsOf c k x ≡ false → countedOf c k x ≡ brokenOf k
   unfolding countedOf followsOf
   counted-broken q f = rw (q, f)
 
   -- A free row that follows is counted as one.
-  pub counted-free : k .ok ≡ true → followsOf g k x ≡ true → x .owner ≡ 0 → countedOf g k x ≡ freeOf k (x .length)
+  pub counted-free : k .ok ≡ true → followsOf c k x ≡ true → x .owner ≡ 0 → countedOf c k x ≡ freeOf k (x .length)
   unfolding countedOf followsOf
   counted-free q f o = rw (q, f, eq-eqb (x .owner) 0 o)
 
   -- A live row that follows is counted as its owner's.
-  pub counted-live : k .ok ≡ true → followsOf g k x ≡ true → (x .owner ≡ 0 → ⊥) → countedOf g k x ≡ liveOf k (x .owner) (x .length)
+  pub counted-live : k .ok ≡ true → followsOf c k x ≡ true → (x .owner ≡ 0 → ⊥) → countedOf c k x ≡ liveOf k (x .owner) (x .length)
   unfolding countedOf followsOf
   counted-live q f o = rw (q, f, ne-eqb (x .owner) 0 o)
 
   -- What holds in each of the four cases holds of the count with the row.
-  pub by-cases : (P : Census → Type 0) → (k .ok ≡ false → P k) → (followsOf g k x ≡ false → P (brokenOf k))
-      → (Follows g k x → isFree x ≡ true → P (freeOf k (x .length))) → (Follows g k x → isFree x ≡ false → P (liveOf k (x .owner) (x .length)))
-      → P (countedOf g k x)
+  pub by-cases : (P : Census → Type 0) → (k .ok ≡ false → P k) → (followsOf c k x ≡ false → P (brokenOf k))
+      → (Follows c k x → isFree x ≡ true → P (freeOf k (x .length))) → (Follows c k x → isFree x ≡ false → P (liveOf k (x .owner) (x .length)))
+      → P (countedOf c k x)
   by-cases P n b f l =
       split (k .ok)
-      (λ q. split (followsOf g k x)
+      (λ q. split (followsOf c k x)
       (λ w. split (isFree x)
-      (λ o. subst P (sym (counted-free q w (omega tests))) (f (follows-true g k x w) o))
-      (λ o. subst P (sym (counted-live q w (λ z. omega tests))) (l (follows-true g k x w) o)))
+      (λ o. subst P (sym (counted-free q w (omega tests))) (f (follows-true c k x w) o))
+      (λ o. subst P (sym (counted-live q w (λ z. omega tests))) (l (follows-true c k x w) o)))
       (λ w. subst P (sym (counted-broken q w)) (b w)))
       (λ q. subst P (sym (counted-not q)) (n q))
 
-  module _ (b : Bounded g k) where
-    free-bounded : Follows g k x → Bounded g (freeOf k (x .length))
+  module _ (b : Bounded (c .granules) k) where
+    free-bounded : Follows c k x → Bounded (c .granules) (freeOf k (x .length))
     free-bounded f =
         record {
           end = omega arith;
@@ -89,7 +90,7 @@ module _ (g : ℕ) (k : Census) (x : Segment) where
           heldEight = b .heldEight;
         }
 
-    live-bounded : Follows g k x → isFree x ≡ false → Bounded g (liveOf k (x .owner) (x .length))
+    live-bounded : Follows c k x → isFree x ≡ false → Bounded (c .granules) (liveOf k (x .owner) (x .length))
     live-bounded f o =
         record {
           end = omega arith;
@@ -102,12 +103,17 @@ module _ (g : ℕ) (k : Census) (x : Segment) where
         }
 
     -- The count with the row is bounded.
-    pub counted-bounded : Bounded g (countedOf g k x)
-    counted-bounded = by-cases (Bounded g) (λ q. b) (λ w. broken-bounded g k b) (λ f o. free-bounded f) live-bounded
+    pub counted-bounded : Bounded (c .granules) (countedOf c k x)
+    counted-bounded = by-cases (Bounded (c .granules)) (λ q. b) (λ w. broken-bounded (c .granules) k b) (λ f o. free-bounded f) live-bounded
 
-    -- And so is what is equal to it.
-    pub counted-so : (r : Census) → r ≡ countedOf g k x → (r ≡ countedOf g k x) × Bounded g r
-    counted-so r e = (e, subst (Bounded g) (sym e) counted-bounded)
+-- An arena of so many granules, apart from all else that a heap is made with.
+abbrev pub ofGranules : ℕ → Config
+ofGranules g = record { granules = g; capacity = 0; granuleQuotas = []; blockQuotas = [] }
+
+-- What is that count, for each such arena, is bounded.
+pub counted-so : (g : ℕ) (k : Census) (x : Segment) → Bounded g k → (r : Census) → ((c : Config) → c .granules ≡ g → r ≡ countedOf c k x)
+    → ((c : Config) → c .granules ≡ g → r ≡ countedOf c k x) × Bounded g r
+counted-so g k x b r e = (e, subst (Bounded g) (sym (e (ofGranules g) refl)) (counted-bounded (ofGranules g) k x b))
 
 -- Each of so many zeros is 0.
 pub none-held : (i n : ℕ) → _≡_ {A = ℕ} (getD (replicate n 0) i 0) 0

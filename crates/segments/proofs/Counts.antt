@@ -12,13 +12,13 @@ use borrow.Author.Tests.{eq-eqb, ne-eqb, le-leb}
 use Rattle.model.specs.Choose.{both, every, only, total, largest}
 use Rattle.model.specs.Quantities.{Config}
 use Rattle.model.specs.Allocation.{granulesOf, ownedBy}
-use Rattle.model.specs.SegmentMap.{isFree, isLive, mapFrom}
+use Rattle.model.specs.SegmentMap.{isFree, isLive}
 use Rattle.model.proofs.Choosing.{split, tests, clash, parts, both-true, every-head, length-total}
 use Rattle.segments.specs.Rows.{segmentsIn}
 use Rattle.segments.specs.Tiling.{tiles, wellFormed, isMap}
 use Rattle.segments.specs.Counting.{Bounded, Counted}
-use Rattle.segments.specs.Steps.{ofGranules, followsOf, brokenOf, freeOf, liveOf}
-use Rattle.segments.proofs.TilesMap.{First, first, map-back}
+use Rattle.segments.specs.Steps.{followsOf, brokenOf, freeOf, liveOf}
+use Rattle.segments.proofs.TilesMap.{First, first, map-is}
 use Rattle.segments.proofs.Reading.{tiles-le}
 use Rattle.segments.proofs.Apart.{apartFrom, apart-all}
 use Rattle.segments.proofs.Following.{Follows}
@@ -42,48 +42,48 @@ more-sums f l r x bs h m e s o a b =
     (λ q. let z : o ≡ x .owner = omega tests in rw (q, z, getD-set-same l (x .owner - 1) v 0 (omega arith)) (omega arith))
     (λ q. rw (q, getD-set-other l (x .owner - 1) (o - 1) v 0 (λ z. omega tests)))
 
-module _ (g : ℕ) where
+module _ (c : Config) where
   abbrev all : Census → List Segment → Census
-  all k xs = countAll g k xs
+  all k xs = countAll c k xs
 
   -- The rows counted are all that there are.
   abbrev done : Census → Bool
-  done k = both (k .ok) (eqb (k .end) g)
+  done k = both (k .ok) (eqb (k .end) (c .granules))
 
   -- The rows are the end of a map, from s on, after a row that is free or not.
   abbrev goesOn : ℕ → Bool → List Segment → Bool
-  goesOn s b xs = both (tiles s g xs) (both (every (wellFormed (ofGranules g)) xs) (apartFrom b xs))
+  goesOn s b xs = both (tiles s (c .granules) xs) (both (every (wellFormed c) xs) (apartFrom b xs))
 
   -- A count that is broken stays so.
   stays : (k : Census) (xs : List Segment) → k .ok ≡ false → all k xs .ok ≡ false
   stays k [] q = q
-  stays k (x ∷ xs) q = ap (λ (r : Census). all r xs .ok) (counted-not g k x q) ∙ stays k xs q
+  stays k (x ∷ xs) q = ap (λ (r : Census). all r xs .ok) (counted-not c k x q) ∙ stays k xs q
 
   module _ (k : Census) (x : Segment) (xs : List Segment) where
     -- The first of such rows follows.
-    first-follows : goesOn (k .end) (k .«after_free») (x ∷ xs) ≡ true → followsOf g k x ≡ true
+    first-follows : goesOn (k .end) (k .«after_free») (x ∷ xs) ≡ true → followsOf c k x ≡ true
     unfolding followsOf
     first-follows q =
-        let t : tiles (k .end) g (x ∷ xs) ≡ true = search parts in
-        let w : every (wellFormed (ofGranules g)) (x ∷ xs) ≡ true = search parts in
+        let t : tiles (k .end) (c .granules) (x ∷ xs) ≡ true = search parts in
+        let w : every (wellFormed c) (x ∷ xs) ≡ true = search parts in
         let n : not (both (k .«after_free») (isFree x)) ≡ true = search parts in
-        let f : First (k .end) g x xs = first (k .end) g x xs t in
-        let e : x .start + x .length ≤ g = tiles-le (x .start + x .length) g xs (f .rest) in
+        let f : First (k .end) (c .granules) x xs = first (k .end) (c .granules) x xs t in
+        let e : x .start + x .length ≤ c .granules = tiles-le (x .start + x .length) (c .granules) xs (f .rest) in
         both-true _ _ (eq-eqb (x .start) (k .end) (f .start))
         (both-true _ _ (le-leb 1 (x .length) (f .some))
-        (both-true _ _ (le-leb (x .length) (g - k .end) (omega arith))
-        (both-true _ _ (every-head (wellFormed (ofGranules g)) x xs w) n)))
+        (both-true _ _ (le-leb (x .length) (c .granules - k .end) (omega arith))
+        (both-true _ _ (every-head (wellFormed c) x xs w) n)))
 
     -- If the first follows, the others say whether all of them are.
-    rest-goes-on : Follows g k x → (b : Bool) → isFree x ≡ b → goesOn (k .end + x .length) b xs ≡ goesOn (k .end) (k .«after_free») (x ∷ xs)
+    rest-goes-on : Follows c k x → (b : Bool) → isFree x ≡ b → goesOn (k .end + x .length) b xs ≡ goesOn (k .end) (k .«after_free») (x ∷ xs)
     rest-goes-on f b o =
         rw (eq-eqb (x .start) (k .end) (f .start), le-leb 1 (x .length) (f .some), f .formed, f .apart, o)
 
   -- A count that is not broken says whether the rows go on to the arena's end.
   decided : (k : Census) (xs : List Segment) → k .ok ≡ true → done (all k xs) ≡ goesOn (k .end) (k .«after_free») xs
-  decided k [] q = rw q (split (eqb (k .end) g) (λ e. rw e) (λ e. rw e))
+  decided k [] q = rw q (split (eqb (k .end) (c .granules)) (λ e. rw e) (λ e. rw e))
   decided k (x ∷ xs) q =
-      by-cases g k x (λ r. done (all r xs) ≡ goesOn (k .end) (k .«after_free») (x ∷ xs))
+      by-cases c k x (λ r. done (all r xs) ≡ goesOn (k .end) (k .«after_free») (x ∷ xs))
       (λ n. absurd (clash (k .ok) q n))
       (λ w. rw (stays (brokenOf k) xs refl)
       (split (goesOn (k .end) (k .«after_free») (x ∷ xs)) (λ s. absurd (clash _ (first-follows k x xs s) w)) (λ s. sym s)))
@@ -98,52 +98,51 @@ module _ (g : ℕ) where
     held : Sums lengthOf (k .held) (r .held) bs
 
   -- A count that ends unbroken has added all rows.
-  figures : (k : Census) (xs : List Segment) → Bounded g k → k .ok ≡ true → all k xs .ok ≡ true → Figures k (all k xs) (only isLive xs) (only isFree xs)
+  figures : (k : Census) (xs : List Segment) → Bounded (c .granules) k → k .ok ≡ true → all k xs .ok ≡ true → Figures k (all k xs) (only isLive xs) (only isFree xs)
   figures k [] b q e = record { used = omega arith; longest = omega arith; blocks = λ o h i. omega arith; held = λ o h i. omega arith }
   figures k (x ∷ xs) b q e =
-      by-cases g k x (λ r. Bounded g r → all r xs .ok ≡ true → Figures k (all r xs) (only isLive (x ∷ xs)) (only isFree (x ∷ xs)))
+      by-cases c k x (λ r. Bounded (c .granules) r → all r xs .ok ≡ true → Figures k (all r xs) (only isLive (x ∷ xs)) (only isFree (x ∷ xs)))
       (λ n. absurd (clash (k .ok) q n))
-      (λ w c r. absurd (clash (all (brokenOf k) xs .ok) r (stays (brokenOf k) xs refl)))
-      (λ f o c r. let n = figures (freeOf k (x .length)) xs c q r in
+      (λ w d r. absurd (clash (all (brokenOf k) xs .ok) r (stays (brokenOf k) xs refl)))
+      (λ f o d r. let n = figures (freeOf k (x .length)) xs d q r in
       rw o (record { used = n .used; longest = n .longest ∙ omega arith; blocks = n .blocks; held = n .held }))
-      (λ f o c r. let l : Census = liveOf k (x .owner) (x .length) in let n = figures l xs c q r in
+      (λ f o d r. let l : Census = liveOf k (x .owner) (x .length) in let n = figures l xs d q r in
       rw o (record {
         used = n .used ∙ omega arith;
         longest = n .longest;
         blocks = more-sums (λ (y : Segment). 1) (k .blocks) (all l xs .blocks) x (only isLive xs) (omega tests) (f .owner) (b .blocksEight) (n .blocks);
         held = more-sums lengthOf (k .held) (all l xs .held) x (only isLive xs) (omega tests) (f .owner) (b .heldEight) (n .held);
       }))
-      (counted-bounded g k x b) e
+      (counted-bounded c k x b) e
 
-module _ (c : Config) (g : ℕ) (h : c .granules ≡ g) (n : ℕ) (ws : List ℕ) (k : Census) (b : Bounded g k) (e : countAll g noneCounted (segmentsIn n ws) ≡ k) where
+module _ (c : Config) (n : ℕ) (ws : List ℕ) (k : Census) (b : Bounded (c .granules) k) (e : countAll c noneCounted (segmentsIn n ws) ≡ k) where
   -- The count is done exactly if the rows are a map.
-  decides : done g k ≡ isMap c (segmentsIn n ws)
-  decides = rw (h, apart-all (segmentsIn n ws)) (subst (λ (r : Census). done g r ≡ goesOn g 0 false (segmentsIn n ws)) e (decided g noneCounted (segmentsIn n ws) refl))
+  decides : done c k ≡ isMap c (segmentsIn n ws)
+  decides = rw (apart-all (segmentsIn n ws)) (subst (λ (r : Census). done c r ≡ goesOn c 0 false (segmentsIn n ws)) e (decided c noneCounted (segmentsIn n ws) refl))
 
   -- Rows that do not end with the arena are no map.
-  pub no-map : (k .end ≡ g → ⊥) → (r : Census) → r ≡ brokenOf k → Counted c n ws r
+  pub no-map : (k .end ≡ c .granules → ⊥) → (r : Census) → r ≡ brokenOf k → Counted c n ws r
   no-map z r q =
-      let m : both (k .ok) false ≡ isMap c (segmentsIn n ws) = rw (ne-eqb (k .end) g z) at decides in
+      let m : both (k .ok) false ≡ isMap c (segmentsIn n ws) = rw (ne-eqb (k .end) (c .granules) z) at decides in
       let w : both (k .ok) false ≡ false = split (k .ok) (λ p. rw p) (λ p. rw p) in
       subst (Counted c n ws) (sym q)
-      (record { bounded = rw h (broken-bounded g k b); ok = sym w ∙ m; used = λ p. cc; longest = λ p. cc; blocks = λ p o i j. cc; held = λ p o i j. cc })
+      (record { bounded = broken-bounded (c .granules) k b; ok = sym w ∙ m; used = λ p. cc; longest = λ p. cc; blocks = λ p o i j. cc; held = λ p o i j. cc })
 
   -- What is counted of rows that end with the arena.
-  pub whole : k .end ≡ g → Counted c n ws k
+  pub whole : k .end ≡ c .granules → Counted c n ws k
   whole z =
       let xs : List Segment = segmentsIn n ws in
       let w : both (k .ok) true ≡ k .ok = split (k .ok) (λ p. rw p) (λ p. rw p) in
-      let m : k .ok ≡ isMap c xs = sym w ∙ rw (eq-eqb (k .end) g z) at decides in
-      let f : k .ok ≡ true → Figures g noneCounted k (only isLive xs) (only isFree xs) =
-      subst (λ (r : Census). r .ok ≡ true → Figures g noneCounted r (only isLive xs) (only isFree xs)) e (figures g noneCounted xs (none-bounded g) refl) in
+      let m : k .ok ≡ isMap c xs = sym w ∙ rw (eq-eqb (k .end) (c .granules) z) at decides in
+      let f : k .ok ≡ true → Figures c noneCounted k (only isLive xs) (only isFree xs) =
+      subst (λ (r : Census). r .ok ≡ true → Figures c noneCounted r (only isLive xs) (only isFree xs)) e (figures c noneCounted xs (none-bounded (c .granules)) refl) in
       record {
-        bounded = rw h b;
+        bounded = b;
         ok = m;
         used = λ q. f q .used ∙ omega arith;
         longest = λ q.
             let t : isMap c xs ≡ true = sym m ∙ q in
-            let y : mapFrom (c .granules) 0 (only isLive xs) ≡ xs = map-back c 0 (c .granules) xs (search parts) (search parts) (search parts) in
-            rw y (f q .longest ∙ omega arith);
+            rw (map-is c xs t) (f q .longest ∙ omega arith);
         blocks = λ q o i j. f q .blocks o i j ∙ rw (none-held (o - 1) 8, length-total (ownedBy o (only isLive xs))) (omega arith);
         held = λ q o i j. f q .held o i j ∙ rw (none-held (o - 1) 8) (omega arith);
       }

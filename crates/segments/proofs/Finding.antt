@@ -1,26 +1,26 @@
 -- What a caller makes of what it found in the rows: the block at a byte, and the map with a block placed where first fit said.
 -- Assumes nothing.
-use mathlib.Core.Path.{_≡_, sym, ap, _∙_, subst}
+use mathlib.Core.Path.{_≡_, ap, _∙_, subst}
 use mathlib.Core.Bool.{Bool, true, false, not}
-use mathlib.Core.List.{List, [], _∷_, _++_, append-nil}
-use mathlib.Core.Option.{Option, none, some}
-use Prim.Native.Nat.{ℕ, _+_, _*_, _/_, _≤_, _<_}
+use mathlib.Core.List.{List, _∷_, _++_}
+use mathlib.Core.Option.{none, some}
+use Prim.Native.Nat.{ℕ, _+_, _/_, _≤_, _<_}
 use native.Mathlib.Omega.{arith}
 use lib.Dec.{leb, ltb, eqb}
 use lib.ListN.{take}
 use borrow.Author.Tests.{ne-eqb}
-use Rattle.model.specs.Choose.{choose, both, every, only, firstOf}
+use Rattle.model.specs.Choose.{choose, both, every, only}
 use Rattle.model.specs.Quantities.{Config}
 use Rattle.model.specs.Allocation.{offset, blockAt, insert}
 use Rattle.model.specs.SegmentMap.{isLive, mapOf}
-use Rattle.model.proofs.Choosing.{split, tests, clash, parts, both-true, both-left, both-right, every-only, every-weaker, only-append, first-back, first-none}
+use Rattle.model.proofs.Choosing.{split, tests, parts, both-left, both-right, every-only, every-weaker, only-append, first-back, first-none}
 use Rattle.model.proofs.Ordered.{Live}
 use Rattle.segments.specs.Rows.{segmentAt, segmentsIn, blocksIn}
 use Rattle.segments.specs.Tiling.{tiles, isMap}
 use Rattle.segments.specs.Search.{hasGranule, RowOf, Found}
 use Rattle.segments.specs.Changes.{replaced, cut}
 use Rattle.segments.proofs.Reading.{rest, row-parted}
-use Rattle.segments.proofs.Parted.{startsBefore, startsFrom, tiles-before, Row, row-of}
+use Rattle.segments.proofs.Parted.{startsBefore, startsFrom, tiles-before, row-of}
 use Rattle.segments.proofs.Splitting.{split-rows}
 use Rattle.model.specs.declared.Segment.{Segment}
 use Rattle.segments.specs.declared.Fit.the-variants as fit

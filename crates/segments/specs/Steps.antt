@@ -2,7 +2,7 @@
 -- Assumes nothing.
 use Prim.Native.Nat.{ℕ, _+_, _-_, _%_, max}
 use mathlib.Core.Bool.{Bool, true, false, not}
-use mathlib.Core.List.{List, [], _++_}
+use mathlib.Core.List.{List, _++_}
 use lib.Dec.{leb, eqb}
 use lib.ListN.{getD, set, take, drop, replicate}
 use Rattle.model.specs.Choose.{choose, both}
@@ -24,17 +24,13 @@ closed n ws = take n (drop 4 ws) ++ (replicate 4 0 ++ drop (n + 4) ws)
 abbrev pub padding : ℕ → ℕ → ℕ
 padding m s = (m - s % m) % m
 
--- An arena of so many granules, apart from all else that a heap is made with.
-abbrev pub ofGranules : ℕ → Config
-ofGranules g = record { granules = g; capacity = 0; granuleQuotas = []; blockQuotas = [] }
-
 -- A row may follow those counted: it begins where they end, is at least 1 long, ends in the arena, is well formed, and is not the second free one of two that touch.
-unfoldable pub followsOf : ℕ → Census → Segment → Bool
-followsOf g k x =
+unfoldable pub followsOf : Config → Census → Segment → Bool
+followsOf c k x =
     both (eqb (x .start) (k .end))
     (both (leb 1 (x .length))
-    (both (leb (x .length) (g - k .end))
-    (both (wellFormed (ofGranules g) x)
+    (both (leb (x .length) (c .granules - k .end))
+    (both (wellFormed c x)
     (not (both (k .«after_free») (isFree x))))))
 
 -- The count of rows that are no map: its figures stay as they were.
@@ -68,8 +64,8 @@ liveOf k o n =
     }
 
 -- The count with one row more; once a row does not follow, it stays as it is.
-unfoldable pub countedOf : ℕ → Census → Segment → Census
-countedOf g k x =
+unfoldable pub countedOf : Config → Census → Segment → Census
+countedOf c k x =
     choose (k .ok)
-    (choose (followsOf g k x) (choose (isFree x) (freeOf k (x .length)) (liveOf k (x .owner) (x .length))) (brokenOf k))
+    (choose (followsOf c k x) (choose (isFree x) (freeOf k (x .length)) (liveOf k (x .owner) (x .length))) (brokenOf k))
     k

@@ -2,7 +2,7 @@
 ghost use mathlib.Core.Path.{_≡_};
 ghost use mathlib.Core.Bool.{true};
 ghost use mathlib.Core.List.{List, _∷_, [], _++_};
-ghost use Prim.Native.Nat.{ℕ, _+_, _-_, _*_, _%_, _<_, _≤_, max};
+ghost use Prim.Native.Nat.{ℕ, _+_, _-_, _*_, _/_, _%_, _<_, _≤_, max};
 ghost use lib.Dec.{eqb};
 ghost use lib.ListN.{length, drop, replicate};
 ghost use Rattle.model.specs.Choose.{every};
@@ -139,7 +139,7 @@ fn padding_of(start: u32, unit: u32) -> u32
 
 // First fit: the first free row with room for `need` granules on a boundary of `align` bytes.
 pub fn first_fit(table: &[u32], rows: usize, need: u32, align: u32) -> Fit
-    requires { do ⌜ (4 * rows ≤ (← ⟦table.len()⟧)) × (1 ≤ need) × (need + align ≤ 4294967295) × (isAlignment align ≡ true) ⌝ }
+    requires { do ⌜ (4 * rows ≤ (← ⟦table.len()⟧)) × (1 ≤ need) × (need + align / 16 ≤ 4294967296) × (isAlignment align ≡ true) ⌝ }
     ensures { λ r. ⌜ ((c : Config) → c .granules ≤ 4294967295 → isMap c (segmentsIn rows (now (table .entry))) ≡ true → Found c rows need align (now (table .entry)) r) ⌝ }
 {
     let unit = align / 16;
@@ -164,8 +164,8 @@ pub fn first_fit(table: &[u32], rows: usize, need: u32, align: u32) -> Fit
 
 // The row may follow those counted.
 fn follows(k: Census, s: Segment, granules: u32) -> bool
-    requires { ⌜ Bounded granules k ⌝ }
-    ensures { λ r. ⌜ r ≡ followsOf granules k s ⌝ }
+    requires { ⌜ k .end ≤ granules ⌝ }
+    ensures { λ r. ⌜ ((c : Config) → c .granules ≡ granules → r ≡ followsOf c k s) ⌝ }
 {
     if s.start != k.end {
         return false;
@@ -234,7 +234,7 @@ fn larger(a: u32, b: u32) -> u32
 // One row more counted.
 fn counted(k: Census, s: Segment, granules: u32) -> Census
     requires { ⌜ Bounded granules k ⌝ }
-    ensures { λ r. ⌜ (r ≡ countedOf granules k s) × Bounded granules r ⌝ }
+    ensures { λ r. ⌜ ((c : Config) → c .granules ≡ granules → r ≡ countedOf c k s) × Bounded granules r ⌝ }
 {
     if !k.ok {
         return k;

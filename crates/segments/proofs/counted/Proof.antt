@@ -1,33 +1,33 @@
 -- `segments::counted` meets its contract: each return is one of the four cases of the count with a row more.
 -- Assumes nothing.
+use Rattle.model.specs.Quantities.{Config}
 use Rattle.segments.specs.Steps.{followsOf}
-use mathlib.Core.Path.{_≡_, sym, _∙_}
+use mathlib.Core.Path.{_≡_, refl, sym, _∙_}
 use mathlib.Core.Bool.{true}
-use Prim.Native.Nat.{ℕ}
 use native.Mathlib.Omega.{arith}
 use borrow.Author.Tests.{not-true, not-false}
 use borrow.Author.Needs.{needs}
 use Rattle.segments.proofs.Following.{Follows, follows-true}
-use Rattle.segments.proofs.Counting.{counted-not, counted-broken, counted-free, counted-live, counted-so, passed-bounded}
+use Rattle.segments.proofs.Counting.{counted-not, counted-broken, counted-free, counted-live, ofGranules, counted-so, passed-bounded}
 use Rattle.model.specs.declared.Segment.{Segment}
 use Rattle.segments.specs.declared.Census.{Census}
 use Rattle.segments.proofs.counted.Statement.{statement}
 use Rattle.segments.proofs.counted.Tie as tie
 
 -- What is known of a row that follows.
-record Here (g : ℕ) (k : Census) (s : Segment) : Type 0 where
+record Here (c : Config) (k : Census) (s : Segment) : Type 0 where
   ok : k .ok ≡ true
-  so : followsOf g k s ≡ true
-  follows : Follows g k s
+  so : followsOf c k s ≡ true
+  follows : Follows c k s
 
-here : (c : tie.Else2) → (let a = c .before .before .before .before .args in Here (a .granules) (a .k) (a .s))
-here c =
+here : (c : tie.Else2) → (let a = c .before .before .before .before .args in (config : Config) → config .granules ≡ a .granules → Here config (a .k) (a .s))
+here c config e =
     let a = c .before .before .before .before .args in
-    let q : followsOf (a .granules) (a .k) (a .s) ≡ true = sym (c .before .follows .ensures) ∙ not-false (c .before .follows .result) (c .if2 .left) in
-    record { ok = not-false (a .k .ok) (c .before .before .if1 .left); so = q; follows = follows-true (a .granules) (a .k) (a .s) q }
+    let q : followsOf config (a .k) (a .s) ≡ true = sym (c .before .follows .ensures config e) ∙ not-false (c .before .follows .result) (c .if2 .left) in
+    record { ok = not-false (a .k .ok) (c .before .before .if1 .left); so = q; follows = follows-true config (a .k) (a .s) q }
 
 returns : tie.Need-returns
-returns c = counted-so _ _ _ (c .before .before .pre) _ (sym (counted-not _ _ _ (not-true _ (c .if1 .taken))))
+returns c = counted-so _ _ _ (c .before .before .pre) _ (λ config e. sym (counted-not config _ _ (not-true _ (c .if1 .taken))))
 
 follows-requires : tie.Need-follows-requires
 follows-requires c κs = search needs
@@ -37,26 +37,26 @@ broken-requires c κs = search needs
 
 returns-2 : tie.Need-returns-2
 returns-2 c =
-    counted-so _ _ _ (c .before .before .before .before .before .pre) _ (c .broken .ensures ∙ sym (counted-broken _ _ _
-    (not-false _ (c .before .before .before .if1 .left)) (sym (c .before .before .follows .ensures) ∙ not-true _ (c .before .if2 .taken))))
+    counted-so _ _ _ (c .before .before .before .before .before .pre) _ (λ config e. c .broken .ensures ∙ sym (counted-broken config _ _
+    (not-false _ (c .before .before .before .if1 .left)) (sym (c .before .before .follows .ensures config e) ∙ not-true _ (c .before .if2 .taken))))
 
 with-free-requires : tie.Need-with-free-requires
-with-free-requires c κs = let h = here (c .before .before) in omega arith
+with-free-requires c κs = let h = here (c .before .before) (ofGranules _) refl in omega arith
 
 returns-3 : tie.Need-returns-3
 returns-3 c =
-    let h = here (c .before .before .before) in
-    counted-so _ _ _ (c .before .before .before .before .before .before .before .pre) _ (c .with-free .ensures ∙ sym (counted-free _ _ _ (h .ok) (h .so) (omega arith)))
+    counted-so _ _ _ (c .before .before .before .before .before .before .before .pre) _ (λ config e. let h = here (c .before .before .before) config e in
+    c .with-free .ensures ∙ sym (counted-free config _ _ (h .ok) (h .so) (omega arith)))
 
 with-block-requires : tie.Need-with-block-requires
 with-block-requires c κs =
-    let h = here (c .before .before) in
+    let h = here (c .before .before) (ofGranules _) refl in
     (omega arith, omega arith, omega arith, omega arith, passed-bounded _ _ (c .before .before .before .before .before .before .pre))
 
 returns-4 : tie.Need-returns-4
 returns-4 c =
-    let h = here (c .before .before .before) in
-    counted-so _ _ _ (c .before .before .before .before .before .before .before .pre) _ (c .with-block .ensures ∙ sym (counted-live _ _ _ (h .ok) (h .so) (λ z. omega arith)))
+    counted-so _ _ _ (c .before .before .before .before .before .before .before .pre) _ (λ config e. let h = here (c .before .before .before) config e in
+    c .with-block .ensures ∙ sym (counted-live config _ _ (h .ok) (h .so) (λ z. omega arith)))
 
 pub counted-spec : {M : Type 1} → statement M
 counted-spec =

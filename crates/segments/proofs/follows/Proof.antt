@@ -8,31 +8,31 @@ use Rattle.segments.proofs.follows.Statement.{statement}
 use Rattle.segments.proofs.follows.Tie as tie
 
 returns : tie.Need-returns
-returns c = refused _ _ _ (λ f. omega arith)
+returns c config e = refused config _ _ (λ f. omega arith)
 
 returns-2 : tie.Need-returns-2
-returns-2 c = refused _ _ _ (λ f. omega arith)
+returns-2 c config e = refused config _ _ (λ f. omega arith)
 
 sub-if3 : tie.Need-sub-if3
 sub-if3 c = search needs
 
 returns-3 : tie.Need-returns-3
-returns-3 c = refused _ _ _ (λ f. omega arith)
+returns-3 c config e = refused config _ _ (λ f. omega arith)
 
 returns-4 : tie.Need-returns-4
-returns-4 c = refused _ _ _ (λ f. clash _ (c .if5 .taken) (f .touch (omega arith)))
+returns-4 c config e = refused config _ _ (λ f. clash _ (c .if5 .taken) (f .touch (omega arith)))
 
 returns-5 : tie.Need-returns-5
-returns-5 c = follows-free _ _ _ (omega arith) (omega arith) (omega arith) (omega arith) (c .before .if5 .left)
+returns-5 c config e = follows-free config _ _ (omega arith) (omega arith) (omega arith) (omega arith) (c .before .if5 .left)
 
 returns-6 : tie.Need-returns-6
-returns-6 c = refused _ _ _ (λ f. omega arith)
+returns-6 c config e = refused config _ _ (λ f. omega arith)
 
 granules-for-requires : tie.Need-granules-for-requires
 granules-for-requires c κs = search needs
 
 returns-7 : tie.Need-returns-7
-returns-7 c = follows-live _ _ _ (omega arith) (omega arith) (omega arith) _ (λ z. omega arith) (omega arith) (c .before .granules-for .ensures)
+returns-7 c config e = follows-live config _ _ (omega arith) (omega arith) (omega arith) _ (λ z. omega arith) (omega arith) (c .before .granules-for .ensures)
 
 pub follows-spec : {M : Type 1} → statement M
 follows-spec =

@@ -5,6 +5,7 @@ use mathlib.Core.List.{List}
 use Prim.Native.Nat.{ℕ, _+_, _-_, _≤_, _<_}
 use native.Mathlib.Omega.{arith}
 use borrow.Author.Needs.{needs}
+use Rattle.model.specs.Quantities.{Config}
 use Rattle.segments.specs.Rows.{segmentAt, segmentsIn}
 use Rattle.segments.specs.Counting.{Bounded}
 use Rattle.segments.specs.Steps.{countedOf}
@@ -17,21 +18,23 @@ use Rattle.segments.proofs.take_census.Statement.{statement}
 use Rattle.segments.proofs.take_census.Tie as tie
 
 -- The row that comes next moves from the rows that are left into the count.
-one-more : (g n i : ℕ) (ws : List ℕ) (k r : Census) (x : Segment) → i < n → x ≡ segmentAt ws i → r ≡ countedOf g k x
-    → countAll g k (rest n i ws) ≡ countAll g r (rest n (i + 1) ws)
-one-more g n i ws k r x h e q =
-    ap (countAll g k) (rest-row n i ws h) ∙ ap (λ (y : Segment). countAll g (countedOf g k y) (rest n (i + 1) ws)) (sym e)
-    ∙ ap (λ (y : Census). countAll g y (rest n (i + 1) ws)) (sym q)
+one-more : (c : Config) (n i : ℕ) (ws : List ℕ) (k r : Census) (x : Segment) → i < n → x ≡ segmentAt ws i → r ≡ countedOf c k x
+    → countAll c k (rest n i ws) ≡ countAll c r (rest n (i + 1) ws)
+one-more c n i ws k r x h e q =
+    ap (countAll c k) (rest-row n i ws h) ∙ ap (λ (y : Segment). countAll c (countedOf c k y) (rest n (i + 1) ws)) (sym e)
+    ∙ ap (λ (y : Census). countAll c y (rest n (i + 1) ws)) (sym q)
 
 abbrev Inv-loop : tie.InvT-loop
 Inv-loop table rows granules k₀ i₀ k i =
-    (i ≤ rows) × (countAll granules noneCounted (segmentsIn rows table) ≡ countAll granules k (rest rows i table)) × Bounded granules k
+    (i ≤ rows)
+    × ((c : Config) → c .granules ≡ granules → countAll c noneCounted (segmentsIn rows table) ≡ countAll c k (rest rows i table))
+    × Bounded granules k
 
 abbrev μ-loop : tie.MeasureT-loop
 μ-loop table rows granules k₀ i₀ k i = rows - i
 
 loop-holds : tie.Need-loop-holds Inv-loop μ-loop
-loop-holds c = (omega arith, refl, none-bounded _)
+loop-holds c = (omega arith, λ config e. refl, none-bounded _)
 
 row-requires : tie.Need-row-requires Inv-loop μ-loop
 row-requires c κs = omega arith
@@ -50,25 +53,26 @@ loop-again c =
     let a = c .before .before .before .before .before .args in
     let l = c .before .before .before .loop in (
       omega arith,
-      l .inv .1 ∙ one-more _ _ _ (a .table .now) _ _ _ (c .before .before .loop-test .taken) (c .before .row .ensures) (c .counted .ensures .0),
+      λ config e. l .inv .1 config e ∙ one-more config _ _ (a .table .now) _ _ _ (c .before .before .loop-test .taken) (c .before .row .ensures) (c .counted .ensures .0 config e),
       c .counted .ensures .1,
     )
 
 -- The count after the last row is the count of them all.
-all-counted : (c : tie.After-loop Inv-loop μ-loop) → (let a = c .before .before .before .args in countAll (a .granules) noneCounted (segmentsIn (a .rows) (a .table .now)) ≡ c .before .loop .k)
-all-counted c =
+all-counted : (c : tie.After-loop Inv-loop μ-loop) → (let a = c .before .before .before .args in
+    (config : Config) → config .granules ≡ a .granules → countAll config noneCounted (segmentsIn (a .rows) (a .table .now)) ≡ c .before .loop .k)
+all-counted c config e =
     let a = c .before .before .before .args in
     let l = c .before .loop in
-    l .inv .1 ∙ ap (countAll (a .granules) (l .k)) (rest-none (a .rows) (l .i) (a .table .now) (c .loop-test .left))
+    l .inv .1 config e ∙ ap (countAll config (l .k)) (rest-none (a .rows) (l .i) (a .table .now) (c .loop-test .left))
 
 broken-requires : tie.Need-broken-requires Inv-loop μ-loop
 broken-requires c κs = search needs
 
 returns : tie.Need-returns Inv-loop μ-loop
-returns c config e = no-map _ _ e _ _ _ (c .before .before .before .before .loop .inv .2) (all-counted (c .before .before .before)) (λ z. omega arith) _ (c .broken .ensures)
+returns c config e = no-map config _ _ _ (rw e (c .before .before .before .before .loop .inv .2)) (all-counted (c .before .before .before) config e) (λ z. omega arith) _ (c .broken .ensures)
 
 returns-2 : tie.Need-returns-2 Inv-loop μ-loop
-returns-2 c config e = whole _ _ e _ _ _ (c .before .before .before .loop .inv .2) (all-counted (c .before .before)) (omega arith)
+returns-2 c config e = whole config _ _ _ (rw e (c .before .before .before .loop .inv .2)) (all-counted (c .before .before) config e) (omega arith)
 
 pub take-census-spec : {M : Type 1} → statement M
 take-census-spec =
