@@ -1,4 +1,4 @@
--- What the test of one row says.
+-- What it says of a row that it may follow those counted.
 -- Assumes nothing.
 use mathlib.Core.Path.{_≡_, sym, _∙_}
 use mathlib.Core.Bool.{true, false, not}

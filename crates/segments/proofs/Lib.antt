@@ -11,8 +11,8 @@ pub mod Padding
 pub mod Scanned
 pub mod Apart
 pub mod Following
-pub mod Counting
-pub mod Counts
+pub mod OneCounted
+pub mod AllCounted
 pub mod Moved
 pub mod Replacing
 pub mod Words

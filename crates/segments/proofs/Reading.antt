@@ -1,4 +1,4 @@
--- The rows read one after the other.
+-- The rows in use read one after the other, and how far those of a tiling reach.
 -- Assumes nothing.
 use mathlib.Core.Path.{_≡_, refl, sym, ap, _∙_}
 use mathlib.Core.Bool.{Bool, true}

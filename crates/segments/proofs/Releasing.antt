@@ -39,13 +39,13 @@ joinedBefore i xs = choose (ltb 0 i) (joined (i - 1) xs) xs
 
 -- a list that is not empty has a last one
 record Last (xs : List Segment) : Type 0 where
-  init : List Segment
+  front : List Segment
   end : Segment
-  all : xs ≡ init ++ (end ∷ [])
+  all : xs ≡ front ++ (end ∷ [])
 
 last : (x : Segment) (xs : List Segment) → Last (x ∷ xs)
-last x [] = record { init = []; end = x; all = refl }
-last x (y ∷ ys) = let r : Last (y ∷ ys) = last y ys in record { init = x ∷ r .init; end = r .end; all = ap (λ l. x ∷ l) (r .all) }
+last x [] = record { front = []; end = x; all = refl }
+last x (y ∷ ys) = let r : Last (y ∷ ys) = last y ys in record { front = x ∷ r .front; end = r .end; all = ap (λ l. x ∷ l) (r .all) }
 
 -- the free row that ends a list, if there is one, and a free run after it joined with it
 record Left (ys : List Segment) : Type 0 where
@@ -94,7 +94,7 @@ left-of [] a =
     record { before = []; left = []; all = refl; free = refl; one = omega arith; live = refl; joins = λ p s e after t h. let d : p ≡ s = eqb-true p s t in rw d }
 left-of (y ∷ ys) a =
     let l : Last (y ∷ ys) = last y ys in
-    subst Left (sym (l .all)) (left-end (l .init) (l .end) (subst (λ r. apartFrom false r ≡ true) (l .all) a))
+    subst Left (sym (l .all)) (left-end (l .front) (l .end) (subst (λ r. apartFrom false r ≡ true) (l .all) a))
 
 -- the free row that begins a list, if there is one, and a free run before it joined with it
 record Right (zs : List Segment) : Type 0 where
@@ -134,7 +134,7 @@ right-of (z ∷ zs) a =
       joins = λ s q e t h. let d : q ≡ e = eqb-true q e t in rw (o, d);
     })
 
--- Row x of a map, between the rows ys and zs, is given back, and that leaves other rows: one free run stands for it, the free row before it and the free row after it.
+-- What is left of the rows ys, x and zs of a map after x is given back: one free run stands for x, the row before it if that is free and the row after it if that is free.
 pub record Merged (c : Config) (ys : List Segment) (x : Segment) (zs rows : List Segment) : Type 0 where
   pub before : List Segment
   pub left : List Segment
@@ -273,16 +273,16 @@ standing c s x (d ∷ bs) b o e =
       at = r .at;
     })
 
--- A block that is given back: it is a row of the map, and the map without it is what is left after that row is given back.
-pub record Returned (c : Config) (x : ℕ) (bs : List Segment) (b : Segment) : Type 0 where
+-- The map without the block at a byte: the block is a row of the map before, and that row is given back.
+pub record MapWithout (c : Config) (x : ℕ) (bs : List Segment) (b : Segment) : Type 0 where
   pub before : List Segment
   pub after : List Segment
   pub map : mapOf c bs ≡ before ++ (b ∷ after)
   pub new : mapOf c (without x bs) ≡ released (length before) (mapOf c bs)
   pub merged : Merged c before b after (mapOf c (without x bs))
 
-pub block-returned : (c : Config) (x : ℕ) (bs : List Segment) (b : Segment) → Ordered c 0 bs → blockAt x bs ≡ some b → Returned c x bs b
-block-returned c x bs b o e =
+pub map-without : (c : Config) (x : ℕ) (bs : List Segment) (b : Segment) → Ordered c 0 bs → blockAt x bs ≡ some b → MapWithout c x bs b
+map-without c x bs b o e =
     let s : Standing c 0 x bs b = standing c 0 x bs b o e in
     let m : isMap c (s .before ++ (b ∷ s .after)) ≡ true = subst (λ r. isMap c r ≡ true) (s .map) (is-map c bs o) in
     let live : isLive b ≡ true = rw (owner-not-0 c b (s .live)) in
@@ -298,6 +298,6 @@ block-returned c x bs b o e =
     }
 
 -- The rows without the block are as many fewer as there were free rows next to it.
-pub returned-count : (c : Config) (x : ℕ) (bs : List Segment) (b : Segment) (r : Returned c x bs b)
+pub map-without-count : (c : Config) (x : ℕ) (bs : List Segment) (b : Segment) (r : MapWithout c x bs b)
     → rowsOf c (without x bs) + length (r .merged .left) + length (r .merged .right) ≡ rowsOf c bs
-returned-count c x bs b r = merged-count c (r .before) b (r .after) (mapOf c (without x bs)) (r .merged) ∙ ap length (sym (r .map))
+map-without-count c x bs b r = merged-count c (r .before) b (r .after) (mapOf c (without x bs)) (r .merged) ∙ ap length (sym (r .map))

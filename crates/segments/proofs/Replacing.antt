@@ -68,7 +68,7 @@ second-live x y ys q = split (isFree x) (λ p. rw (p, q)) (λ p. rw p)
 pub both-free : (x y : Segment) (ys : List Segment) → isFree x ≡ true → isFree y ≡ true → joinFirst (x ∷ y ∷ ys) ≡ freeRun (x .start) (x .length + y .length) ∷ ys
 both-free x y ys p q = rw (p, q)
 
--- What is done to the rows from row i on, and changes neither their number nor the sum of their lengths, does so to all rows; and joining may take one row.
+-- Freeing and joining keep the sum of the lengths; freeing keeps the number of rows, and joining takes at most one.
 pub granules-append : (xs ys : List Segment) → granulesOf (xs ++ ys) ≡ granulesOf xs + granulesOf ys
 granules-append [] ys = omega arith
 granules-append (x ∷ xs) ys = omega (arith, granules-append xs ys)

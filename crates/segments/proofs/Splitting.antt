@@ -90,7 +90,7 @@ split-rows c n ws i b h m free l low high =
     ∙ cut-map c (take i xs) (drop (i + 1) xs) (segmentAt ws i) b (subst (λ r. isMap c r ≡ true) e m) (eq-eqb (segmentAt ws i .owner) 0 free) l low high)
 
 -- the row of a tiling that has a granule
-record Holding (g : ℕ) (xs : List Segment) : Type 0 where
+record RowAt (g : ℕ) (xs : List Segment) : Type 0 where
   before : List Segment
   row : Segment
   after : List Segment
@@ -98,13 +98,13 @@ record Holding (g : ℕ) (xs : List Segment) : Type 0 where
   low : row .start ≤ g
   high : g < row .start + row .length
 
-holding : (s e g : ℕ) (xs : List Segment) → tiles s e xs ≡ true → s ≤ g → g < e → Holding g xs
-holding s e g [] t h k = absurd (omega tests)
-holding s e g (x ∷ xs) t h k =
+row-at : (s e g : ℕ) (xs : List Segment) → tiles s e xs ≡ true → s ≤ g → g < e → RowAt g xs
+row-at s e g [] t h k = absurd (omega tests)
+row-at s e g (x ∷ xs) t h k =
     let f : First s e x xs = first s e x xs t in
     split (ltb g (x .start + x .length))
     (λ q. record { before = []; row = x; after = xs; all = refl; low = omega arith; high = omega tests })
-    (λ q. let r : Holding g xs = holding (x .start + x .length) e g xs (f .rest) (omega tests) k in
+    (λ q. let r : RowAt g xs = row-at (x .start + x .length) e g xs (f .rest) (omega tests) k in
     record { before = x ∷ r .before; row = r .row; after = r .after; all = ap (λ l. x ∷ l) (r .all); low = r .low; high = r .high })
 
 -- granules that are clear of live rows and begin before them end before them
@@ -135,8 +135,8 @@ module _ (c : Config) (ys zs : List Segment) (x b : Segment) (m : isMap c (ys ++
       clear-end (b .start) (b .length) (x .start + x .length) (c .granules) zs (subst (λ (k : ℕ). tiles k (c .granules) zs ≡ true) (r .end) (r .place .back))
       (apart-first zs (rw row-free at (r .apart-after))) (rw row-free at later) high inside
 
--- A block that is lent at a place that serves: it lies in a free row of the map, and the map with it has that row cut.
-pub record Inserted (c : Config) (bs : List Segment) (b : Segment) : Type 0 where
+-- The map with a block at a start that serves: the block lies in a free row of the map before, and that row is cut for it.
+pub record MapWith (c : Config) (bs : List Segment) (b : Segment) : Type 0 where
   pub before : List Segment
   pub row : Segment
   pub after : List Segment
@@ -146,10 +146,10 @@ pub record Inserted (c : Config) (bs : List Segment) (b : Segment) : Type 0 wher
   pub high : b .start + b .length ≤ row .start + row .length
   pub new : mapOf c (insert b bs) ≡ before ++ (cut row b ++ after)
 
-pub block-inserted : (c : Config) (bs : List Segment) (b : Segment) (a : ℕ) → Ordered c 0 bs → Live c b → serves c bs (b .length) a (b .start) ≡ true → Inserted c bs b
-block-inserted c bs b a o l t =
+pub map-with : (c : Config) (bs : List Segment) (b : Segment) (a : ℕ) → Ordered c 0 bs → Live c b → serves c bs (b .length) a (b .start) ≡ true → MapWith c bs b
+map-with c bs b a o l t =
     let p : Place c bs (b .length) a (b .start) = place c bs (b .length) a (b .start) t in
-    let h : Holding (b .start) (mapOf c bs) = holding 0 (c .granules) (b .start) (mapOf c bs) (tiles-map c 0 bs o) (omega arith) (omega (arith, long c b l)) in
+    let h : RowAt (b .start) (mapOf c bs) = row-at 0 (c .granules) (b .start) (mapOf c bs) (tiles-map c 0 bs o) (omega arith) (omega (arith, long c b l)) in
     let ys : List Segment = h .before in
     let x : Segment = h .row in
     let zs : List Segment = h .after in
@@ -176,8 +176,8 @@ cut-short x b =
     (omega (arith, gap-short (x .start) (b .start), gap-short (b .start + b .length) (x .start + x .length)))
 
 -- The rows with the block are those before, less the one cut, and those that it is cut into.
-pub inserted-count : (c : Config) (bs : List Segment) (b : Segment) (i : Inserted c bs b) → rowsOf c (insert b bs) + 1 ≡ rowsOf c bs + length (cut (i .row) b)
-inserted-count c bs b i =
+pub map-with-count : (c : Config) (bs : List Segment) (b : Segment) (i : MapWith c bs b) → rowsOf c (insert b bs) + 1 ≡ rowsOf c bs + length (cut (i .row) b)
+map-with-count c bs b i =
     omega (
       arith,
       ap length (i .map) ∙ length-append (i .before) (i .row ∷ i .after),

@@ -20,7 +20,7 @@ inserted i x xs = replaced i 0 (x ∷ []) xs
 abbrev pub removed : ℕ → List Segment → List Segment
 removed i xs = replaced i 1 [] xs
 
--- A row that is cut exactly for a block: what is left of it before the block, the block, what is left after it.
+-- A row that is cut exactly for a block in it: what is left of it before the block, the block, what is left after it.
 abbrev pub cut : Segment → Segment → List Segment
 cut x b = gap (x .start) (b .start) ++ (b ∷ gap (b .start + b .length) (x .start + x .length))
 

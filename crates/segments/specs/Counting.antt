@@ -12,7 +12,7 @@ use Rattle.segments.specs.Rows.{segmentsIn, blocksIn}
 use Rattle.segments.specs.Tiling.{isMap}
 use Rattle.segments.specs.declared.Census.{Census}
 
--- No figure exceeds the granules passed, and those do not exceed the arena's.
+-- No figure exceeds the granules passed, those do not exceed the arena's, and there is a figure of each kind for each of eight owners.
 pub record Bounded (g : ℕ) (k : Census) : Type 0 where
   pub end : k .end ≤ g
   pub used : k .used ≤ k .end
@@ -22,7 +22,7 @@ pub record Bounded (g : ℕ) (k : Census) : Type 0 where
   pub blocksEight : length (k .blocks) ≡ 8
   pub heldEight : length (k .held) ≡ 8
 
--- What a whole count says of n rows: `ok` whether they are a map, and if so its figures are those of the live blocks; if not, they are bounded and no more is said.
+-- What a whole count says of n rows: `ok` is whether they are a map; if so, the figures are those of the live blocks, and if not, no more is said of them than that they are bounded.
 pub record Counted (c : Config) (n : ℕ) (ws : List ℕ) (k : Census) : Type 0 where
   pub bounded : Bounded (c .granules) k
   pub ok : k .ok ≡ isMap c (segmentsIn n ws)

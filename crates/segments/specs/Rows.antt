@@ -8,16 +8,16 @@ use Rattle.model.specs.Choose.{only}
 use Rattle.model.specs.SegmentMap.{isLive}
 use Rattle.model.specs.declared.Segment.{Segment}
 
--- A row is four words: start granule, length in granules, owner (0 means free), bytes requested (0 if free).
+-- Each row is four words: start granule, length in granules, owner (0 means free), bytes requested (0 if free).
 abbrev pub wordsOf : List Segment → List ℕ
 wordsOf [] = []
 wordsOf (x ∷ xs) = x .start ∷ x .length ∷ x .owner ∷ x .requested ∷ wordsOf xs
 
--- A table has the rows in use from row 0 on, and the rows after those are all zero.
+-- A table of so many rows has the rows in use from row 0 on, and the rows after those are all zero.
 abbrev pub tableOf : ℕ → List Segment → List ℕ
 tableOf capacity xs = wordsOf xs ++ replicate (4 * (capacity - length xs)) 0
 
--- Row i holds the segment made of its four words.
+-- Row i holds the segment made of its four words; a word past the end reads as 0.
 abbrev pub segmentAt : List ℕ → ℕ → Segment
 segmentAt ws i = record { start = getD ws (4 * i) 0; length = getD ws (4 * i + 1) 0; owner = getD ws (4 * i + 2) 0; requested = getD ws (4 * i + 3) 0 }
 
@@ -30,7 +30,7 @@ segmentsIn (suc n) ws = segmentAt ws 0 ∷ segmentsIn n (drop 4 ws)
 abbrev pub blocksIn : ℕ → List ℕ → List Segment
 blocksIn n ws = only isLive (segmentsIn n ws)
 
--- A table with row i set has every other word as it was.
+-- A table with its row i set has every other word as it was.
 abbrev pub withRow : List ℕ → ℕ → Segment → List ℕ
 withRow ws i x = take (4 * i) ws ++ (wordsOf (x ∷ []) ++ drop (4 * i + 4) ws)
 

@@ -9,7 +9,7 @@ use Rattle.model.specs.Quantities.{within, Config}
 use Rattle.model.specs.SegmentMap.{isFree}
 use Rattle.model.specs.declared.Segment.{Segment}
 
--- The rows begin at s, each begins where the one before ends, each is at least 1 long, and the last ends at e.
+-- The rows begin at s, each begins where the one before ends, each is at least 1 long, and the last ends at e; no rows do so only if s is e.
 abbrev pub tiles : ℕ → ℕ → List Segment → Bool
 tiles s e [] = eqb s e
 tiles s e (x ∷ xs) = both (eqb (x .start) s) (both (leb 1 (x .length)) (tiles (s + x .length) e xs))

@@ -19,14 +19,15 @@ ghost use Rattle.segments.specs.Steps.{opened, closed, padding, followsO
 use model::Segment;
 use model::granules_for;
 
-// Where first fit found room: the row that has it, and the start granule.
+// What first fit found: the row that has room and the start granule, or that no start serves.
 pub enum Fit {
     At { row: usize, start: u32 },
     Nothing,
 }
 
-// What a pass over the rows has counted, in granules: whether the rows so far may stand in a map, where they end, whether the last is free,
-// what the live blocks hold, the longest free run, and the live blocks of owners 1 to 8 and what those hold.
+// What a pass over the rows has counted: whether the rows so far may begin a map (after the whole pass, whether they are one); the granule where they
+// end, and whether the last is free, which only the pass needs; the granules of the live blocks and of the longest free run; and for each of
+// owners 1 to 8 the number of its live blocks, and their granules.
 pub struct Census {
     pub ok: bool,
     pub end: u32,
@@ -110,7 +111,7 @@ pub fn remove_row(table: &mut [u32], rows: usize, i: usize)
     close_row(&mut table[at..], count);
 }
 
-// The row that has a granule, by halving.
+// The row that has a granule, if the rows tile an arena that has it: by halving.
 pub fn row_of(table: &[u32], rows: usize, granule: u32) -> usize
     requires { do ⌜ (1 ≤ rows) × (4 * rows ≤ (← ⟦table.len()⟧)) ⌝ }
     ensures { λ r. ⌜ RowOf rows granule (now (table .entry)) r ⌝ }
@@ -129,7 +130,7 @@ pub fn row_of(table: &[u32], rows: usize, granule: u32) -> usize
     low
 }
 
-// The granules from `start` to the next multiple of `unit`.
+// The granules from `start` to the next multiple of `unit`, 0 if it is one.
 fn padding_of(start: u32, unit: u32) -> u32
     requires { ⌜ 1 ≤ unit ⌝ }
     ensures { λ r. ⌜ (r ≡ padding unit start) × (r < unit) ⌝ }
@@ -225,6 +226,7 @@ fn with_block(mut k: Census, owner: u32, length: u32) -> Census
     k
 }
 
+// The larger of two numbers.
 fn larger(a: u32, b: u32) -> u32
     ensures { λ r. ⌜ r ≡ max a b ⌝ }
 {
@@ -248,7 +250,7 @@ fn counted(k: Census, s: Segment, granules: u32) -> Census
     with_block(k, s.owner, s.length)
 }
 
-// One pass over the rows that counts everything.
+// One pass over the rows: whether they are a map of the arena, and the figures of the live blocks and free runs.
 pub fn take_census(table: &[u32], rows: usize, granules: u32) -> Census
     requires { do ⌜ 4 * rows ≤ (← ⟦table.len()⟧) ⌝ }
     ensures { λ r. ⌜ ((c : Config) → c .granules ≡ granules → Counted c rows (now (table .entry)) r) ⌝ }
@@ -286,14 +288,14 @@ fn free_run(start: u32, length: u32) -> Segment
     }
 }
 
-// The rows that the granules from `from` up to `to` take: one if there are any.
+// How many rows the granules from `from` up to `to` take: one if there are any.
 fn gap_rows(from: u32, to: u32) -> usize
     ensures { λ r. ⌜ (r ≡ length (gap from to)) × (r ≤ 1) ⌝ }
 {
     if from < to { 1 } else { 0 }
 }
 
-// The rows that a row becomes when it is cut for a block.
+// How many rows a row becomes when it is cut for a block.
 pub fn pieces(s: Segment, block: Segment) -> usize
     requires { ⌜ (block .start + block .length ≤ 4294967295) × (s .start + s .length ≤ 4294967295) ⌝ }
     ensures { λ r. ⌜ r ≡ length (cut s block) ⌝ }
@@ -316,7 +318,7 @@ fn insert_gap(table: &mut [u32], rows: usize, i: usize, from: u32, to: u32) -> u
     rows
 }
 
-// Row i cut for a block that stands in it; answers the rows in use.
+// Row i cut for a block in it; answers the rows in use.
 pub fn split_row(table: &mut [u32], rows: usize, i: usize, block: Segment) -> usize
     requires { do
       ⌜ (i < rows)

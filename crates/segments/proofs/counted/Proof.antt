@@ -8,7 +8,7 @@ use native.Mathlib.Omega.{arith}
 use borrow.Author.Tests.{not-true, not-false}
 use borrow.Author.Needs.{needs}
 use Rattle.segments.proofs.Following.{Follows, follows-true}
-use Rattle.segments.proofs.Counting.{counted-not, counted-broken, counted-free, counted-live, ofGranules, counted-so, passed-bounded}
+use Rattle.segments.proofs.OneCounted.{counted-not, counted-broken, counted-free, counted-live, ofGranules, counted-so, passed-bounded}
 use Rattle.model.specs.declared.Segment.{Segment}
 use Rattle.segments.specs.declared.Census.{Census}
 use Rattle.segments.proofs.counted.Statement.{statement}

@@ -10,8 +10,8 @@ use Rattle.segments.specs.Rows.{segmentAt, segmentsIn}
 use Rattle.segments.specs.Counting.{Bounded}
 use Rattle.segments.specs.Steps.{countedOf}
 use Rattle.segments.proofs.Reading.{rest, rest-row, rest-none}
-use Rattle.segments.proofs.Counting.{noneCounted, countAll, none-bounded}
-use Rattle.segments.proofs.Counts.{no-map, whole}
+use Rattle.segments.proofs.OneCounted.{noneCounted, countAll, none-bounded}
+use Rattle.segments.proofs.AllCounted.{no-map, whole}
 use Rattle.model.specs.declared.Segment.{Segment}
 use Rattle.segments.specs.declared.Census.{Census}
 use Rattle.segments.proofs.take_census.Statement.{statement}

@@ -22,7 +22,7 @@ use Rattle.segments.proofs.TilesMap.{First, first, map-is}
 use Rattle.segments.proofs.Reading.{tiles-le}
 use Rattle.segments.proofs.Apart.{apartFrom, apart-all}
 use Rattle.segments.proofs.Following.{Follows}
-use Rattle.segments.proofs.Counting.{noneCounted, countAll, counted-not, by-cases, counted-bounded, broken-bounded, none-held, none-bounded}
+use Rattle.segments.proofs.OneCounted.{noneCounted, countAll, counted-not, by-cases, counted-bounded, broken-bounded, none-held, none-bounded}
 use Rattle.model.specs.declared.Segment.{Segment}
 use Rattle.segments.specs.declared.Census.{Census}
 
