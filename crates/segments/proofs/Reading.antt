@@ -8,7 +8,7 @@ use native.Mathlib.Omega.{arith}
 use lib.Dec.{leb}
 use lib.ListN.{length, take, drop, getD, take-append-drop, drop-of-length-le}
 use lib.Seq.{getD-drop, length-take-le}
-use borrow.Author.Tests.{eqb-true, le-leb}
+use borrow.Author.Tests.{eqb-true, leb-true, le-leb}
 use Rattle.model.specs.Choose.{every}
 use Rattle.model.proofs.Choosing.{tests, every-head, every-tail}
 use Rattle.segments.specs.Rows.{segmentAt, segmentsIn}
@@ -68,3 +68,7 @@ tiles-end s e [] t = refl
 tiles-end s e (x ∷ xs) t =
     let f : First s e x xs = first s e x xs t in
     rw (le-leb (x .start + x .length) e (tiles-le (x .start + x .length) e xs (f .rest))) (tiles-end (x .start + x .length) e xs (f .rest))
+
+-- No row of a tiling ends after it.
+pub row-end : (n e : ℕ) (ws : List ℕ) (i : ℕ) → tiles 0 e (segmentsIn n ws) ≡ true → i < n → segmentAt ws i .start + segmentAt ws i .length ≤ e
+row-end n e ws i t h = leb-true _ e (every-row (endsBy e) n ws i h (tiles-end 0 e (segmentsIn n ws) t))

@@ -6,14 +6,14 @@ use mathlib.Core.List.{List, [], _∷_, _++_}
 use Prim.Native.Nat.{ℕ, _+_, _*_, _-_, _≤_, _<_, max}
 use native.Mathlib.Omega.{arith}
 use lib.ListN.{length, take, drop, replicate, take-append-drop, drop-of-length-le}
-use Rattle.segments.specs.Rows.{segmentAt, segmentsIn, withRow, withRows, Rewritten}
+use Rattle.segments.specs.Rows.{tableOf, segmentAt, segmentsIn, withRow, withRows, Rewritten}
 use borrow.Author.Tests.{lt-ltb, le-ltb}
 use Rattle.model.specs.Allocation.{granulesOf}
 use Rattle.model.specs.SegmentMap.{isFree, freeRun, gap}
 use Rattle.segments.specs.Changes.{replaced, inserted, removed, cut, joinFirst, joined, freeFirst, freed, released}
 use Rattle.segments.proofs.Replacing.{replaced-none, gap-some, gap-none, cut-steps, join-steps, first-live, second-live, both-free, granules-append, granules-joined, granules-freed, length-freed, length-joined}
 use Rattle.segments.proofs.Reading.{rest-row, row-parted, rows-before}
-use Rattle.segments.proofs.Words.{length-replaced, replaced-count, row-set, rows-same, then-more, then-fewer}
+use Rattle.segments.proofs.Words.{length-replaced, replaced-count, row-set, rows-same, then-more, then-fewer, table-rows}
 use Rattle.segments.proofs.Rows.{read-back, length-segments}
 use Rattle.model.specs.declared.Segment.{Segment}
 
@@ -150,6 +150,13 @@ module _ (n : ℕ) (ws : List ℕ) (fits : 4 * n ≤ length ws) (i : ℕ) (h : i
       ∙ join-steps (take i these) (drop (i + 1 + 1) these) (segmentAt ws i) (segmentAt ws (i + 1)) run i (rows-before n ws i (omega arith))
       ∙ w in
       subst (λ (q : List Segment). Rewritten n ws q (n - 1) two) z (change-fewer (removed (i + 1)) s t (omega arith) (omega arith))
+
+-- A table of some segments in which other rows were put is the table of those.
+pub rewritten-table : (capacity n m : ℕ) (ws after : List ℕ) (xs : List Segment) → n ≤ capacity → tableOf capacity (segmentsIn n ws) ≡ ws → length xs ≤ capacity
+    → Rewritten n ws xs m after → after ≡ tableOf capacity xs
+rewritten-table capacity n m ws after xs h e k w =
+    let l : length (segmentsIn n ws) ≡ n = length-segments n ws in
+    w .words ∙ sym (λ i. withRows (l i) (e i) xs) ∙ table-rows capacity (segmentsIn n ws) xs (omega arith) k
 
 -- Row i freed, and joined with the rows beside it.
 module _ (n : ℕ) (ws : List ℕ) (fits : 4 * n ≤ length ws) (i : ℕ) (h : i < n) (s run : Segment) (one : List ℕ)

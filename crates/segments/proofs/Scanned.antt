@@ -20,7 +20,7 @@ use Rattle.segments.specs.Tiling.{tiles, wellFormed, noTwoFree, isMap}
 use Rattle.segments.specs.Search.{startOf, Found}
 use Rattle.segments.specs.Steps.{padding}
 use Rattle.segments.proofs.TilesMap.{First, first, ordered-back, apart-tail}
-use Rattle.segments.proofs.Reading.{rest, rest-row, rest-none, every-row, tiles-le, endsBy, tiles-end}
+use Rattle.segments.proofs.Reading.{rest, rest-row, rest-none, tiles-le, row-end}
 use Rattle.segments.proofs.Padding.{Padded, padded}
 use Rattle.model.specs.declared.Segment.{Segment}
 use Rattle.segments.specs.declared.Fit.{Fit}
@@ -145,8 +145,7 @@ module _ (c : Config) {n g a i : ℕ} {ws : List ℕ} (ok : isMap c (segmentsIn 
       → (s : ℕ) → s ≡ (x .start + padding (a / 16) (x .start)) % 2 ^ 32 → Found c n g a ws (fit.At i s)
   found-at small h x e q s w =
       let t : tiles 0 (c .granules) (segmentsIn n ws) ≡ true = search parts in
-      let b : endsBy (c .granules) x ≡ true =
-      ap (endsBy (c .granules)) e ∙ every-row (endsBy (c .granules)) n ws i h (tiles-end 0 (c .granules) (segmentsIn n ws) t) in
+      let b : x .start + x .length ≤ c .granules = rw e (row-end n (c .granules) ws i t h) in
       let f : isFree x ≡ true = search parts in
       let l : leb (padding (a / 16) (x .start) + g) (x .length) ≡ true = search parts in
       let z : s ≡ x .start + padding (a / 16) (x .start) = w ∙ mod-eq-of-lt (omega tests) in

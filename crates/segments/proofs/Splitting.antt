@@ -3,7 +3,7 @@
 use mathlib.Core.Path.{_≡_, refl, sym, ap, _∙_, subst}
 use mathlib.Core.Bool.{Bool, true, false}
 use mathlib.Core.List.{List, [], _∷_, _++_}
-use Prim.Native.Nat.{ℕ, _+_, _≤_, _<_}
+use Prim.Native.Nat.{ℕ, _+_, _-_, _≤_, _<_}
 use native.Mathlib.Omega.{arith}
 use lib.Dec.{ltb}
 use lib.ListN.{length, take, drop, length-append}
@@ -20,6 +20,8 @@ use Rattle.segments.specs.Tiling.{tiles, wellFormed, isMap}
 use Rattle.segments.specs.Changes.{replaced, cut}
 use Rattle.segments.proofs.MapTiles.{gap-free, gap-formed, tiles-cons, tiles-gap, gap-tiles, live-formed, owner-not-0, live-map, tiles-map, is-map}
 use Rattle.segments.proofs.TilesMap.{First, first}
+use Rattle.segments.proofs.Rows.{length-segments}
+use Rattle.segments.proofs.Words.{length-replaced}
 use Rattle.segments.proofs.Reading.{row-parted}
 use Rattle.segments.proofs.Apart.{apartFrom, firstFree, lastFree, apart-free, apart-first, gap-apart}
 use Rattle.segments.proofs.Parted.{startsBefore, startsFrom, refilled, Row, row-of}
@@ -88,6 +90,16 @@ split-rows c n ws i b h m free l low high =
     let e : xs ≡ take i xs ++ (segmentAt ws i ∷ drop (i + 1) xs) = row-parted n ws i h in
     sym (ap (λ r. mapOf c (insert b (only isLive r))) e
     ∙ cut-map c (take i xs) (drop (i + 1) xs) (segmentAt ws i) b (subst (λ r. isMap c r ≡ true) e m) (eq-eqb (segmentAt ws i .owner) 0 free) l low high)
+
+-- The rows with that block are those before, less the one cut, and those that it is cut into.
+pub split-count : (c : Config) (n : ℕ) (ws : List ℕ) (i : ℕ) (b : Segment) → i < n → isMap c (segmentsIn n ws) ≡ true → segmentAt ws i .owner ≡ 0
+    → Live c b → segmentAt ws i .start ≤ b .start → b .start + b .length ≤ segmentAt ws i .start + segmentAt ws i .length
+    → rowsOf c (insert b (blocksIn n ws)) ≡ n - 1 + length (cut (segmentAt ws i) b)
+split-count c n ws i b h m free l low high =
+    let x : List Segment = cut (segmentAt ws i) b in
+    sym (ap length (split-rows c n ws i b h m free l low high))
+    ∙ length-replaced i 1 x (segmentsIn n ws) (omega (arith, length-segments n ws))
+    ∙ ap (λ (k : ℕ). k - 1 + length x) (length-segments n ws)
 
 -- the row of a tiling that has a granule
 record RowAt (g : ℕ) (xs : List Segment) : Type 0 where

@@ -8,11 +8,12 @@ use native.Mathlib.Omega.{arith}
 use lib.Dec.{leb, eqb}
 use lib.ListN.{length}
 use borrow.Author.Tests.{eqb-true, le-ltb, lt-ltb}
-use Rattle.model.specs.Choose.{both, every, only}
+use Rattle.model.specs.Choose.{both, every, only, total}
 use Rattle.model.specs.Quantities.{within, Config}
+use Rattle.model.specs.Allocation.{charge, granulesOf, ownedBy}
 use Rattle.model.specs.SegmentMap.{isLive, freeRun, mapFrom, mapOf}
-use Rattle.model.proofs.Choosing.{split, tests, clash, parts, both-left, both-right, every-head, every-tail}
-use Rattle.model.proofs.Ordered.{Live, Ordered, earlier}
+use Rattle.model.proofs.Choosing.{split, tests, clash, parts, both-left, both-right, both-true, every-head, every-tail}
+use Rattle.model.proofs.Ordered.{Live, Ordered, earlier, only-ordered, charged-all}
 use Rattle.segments.specs.Tiling.{tiles, requestedFits, wellFormed, noTwoFree, isMap}
 use Rattle.model.specs.declared.Segment.{Segment}
 
@@ -83,11 +84,27 @@ ordered-back c s (x ∷ xs) t w =
     (λ q. rw q (earlier c (x .start + x .length) s (only isLive xs) (omega arith) r))
     (λ q. rw q (omega arith, formed-live c x q (f .some) (every-head (wellFormed c) x xs w), r))
 
+-- What makes rows a map, by name.
+pub record MapParts (c : Config) (xs : List Segment) : Type 0 where
+  pub tiled : tiles 0 (c .granules) xs ≡ true
+  pub formed : every (wellFormed c) xs ≡ true
+  pub apart : noTwoFree xs ≡ true
+
+pub map-parts : (c : Config) (xs : List Segment) → isMap c xs ≡ true → MapParts c xs
+map-parts c xs m = record { tiled = search parts; formed = search parts; apart = search parts }
+
+pub parts-map : (c : Config) (xs : List Segment) → MapParts c xs → isMap c xs ≡ true
+parts-map c xs p = both-true _ _ (p .tiled) (both-true _ _ (p .formed) (p .apart))
+
 module _ (c : Config) (xs : List Segment) (m : isMap c xs ≡ true) where
   -- Rows that are a map are the map of their live ones.
   pub map-is : mapOf c (only isLive xs) ≡ xs
-  map-is = map-back c 0 (c .granules) xs (search parts) (search parts) (search parts)
+  map-is = let p : MapParts c xs = map-parts c xs m in map-back c 0 (c .granules) xs (p .tiled) (p .formed) (p .apart)
 
   -- Their live ones are in order, apart, in the arena, and have an owner and bytes that fit.
   pub map-ordered : Ordered c 0 (only isLive xs)
-  map-ordered = ordered-back c 0 xs (search parts) (search parts)
+  map-ordered = let p : MapParts c xs = map-parts c xs m in ordered-back c 0 xs (p .tiled) (p .formed)
+
+  -- An owner's blocks count against its quota what they hold.
+  pub map-charged : (o : ℕ) → total (charge c) (ownedBy o (only isLive xs)) ≡ granulesOf (ownedBy o (only isLive xs))
+  map-charged o = charged-all c 0 (ownedBy o (only isLive xs)) (only-ordered c (λ (b : Segment). eqb (b .owner) o) 0 (only isLive xs) map-ordered)

@@ -2,7 +2,7 @@
 ghost use mathlib.Core.Path.{_≡_};
 ghost use mathlib.Core.Bool.{true};
 ghost use mathlib.Core.List.{List, _∷_, [], _++_};
-ghost use Prim.Native.Nat.{ℕ, _+_, _-_, _*_, _/_, _%_, _<_, _≤_, max};
+ghost use Prim.Native.Nat.{ℕ, _+_, _-_, _*_, _%_, _<_, _≤_, max};
 ghost use lib.Dec.{eqb};
 ghost use lib.ListN.{length, drop, replicate};
 ghost use Rattle.model.specs.Choose.{every};
@@ -138,9 +138,10 @@ fn padding_of(start: u32, unit: u32) -> u32
     (unit - start % unit) % unit
 }
 
-// First fit: the first free row with room for `need` granules on a boundary of `align` bytes.
+// First fit: the first free row with room for `need` granules on a boundary of `align` bytes. Before a boundary at most 255 granules are skipped,
+// so that the sum fits a word.
 pub fn first_fit(table: &[u32], rows: usize, need: u32, align: u32) -> Fit
-    requires { do ⌜ (4 * rows ≤ (← ⟦table.len()⟧)) × (1 ≤ need) × (need + align / 16 ≤ 4294967296) × (isAlignment align ≡ true) ⌝ }
+    requires { do ⌜ (4 * rows ≤ (← ⟦table.len()⟧)) × (1 ≤ need) × (need ≤ 4294967040) × (isAlignment align ≡ true) ⌝ }
     ensures { λ r. ⌜ ((c : Config) → c .granules ≤ 4294967295 → isMap c (segmentsIn rows (now (table .entry))) ≡ true → Found c rows need align (now (table .entry)) r) ⌝ }
 {
     let unit = align / 16;

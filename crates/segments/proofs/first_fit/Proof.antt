@@ -5,7 +5,7 @@ use mathlib.Core.Logic.{⊎-elim}
 use Prim.Native.Nat.{ℕ, _+_, _-_, _%_, _^_, _≤_}
 use native.Mathlib.Omega.{arith}
 use borrow.Author.Tests.{eq-eqb, ne-eqb, le-leb, lt-leb}
-use Rattle.model.proofs.Served.{alignment-granules}
+use Rattle.model.proofs.Served.{alignment-granules, alignment-most}
 use Rattle.segments.proofs.Scanned.{Passed, passed-none, passed-one, found-none, found-at}
 use Rattle.segments.proofs.first_fit.Statement.{statement}
 use Rattle.segments.proofs.first_fit.Tie as tie
@@ -26,7 +26,9 @@ padding-of-requires : tie.Need-padding-of-requires Inv-loop μ-loop
 padding-of-requires c κs = alignment-granules _ (c .before .before .before .before .before .before .pre .3) .0
 
 add-if3 : tie.Need-add-if3 Inv-loop μ-loop
-add-if3 c = omega arith
+add-if3 c =
+    let s = c .before .before .before .before .before .before .before in
+    omega (arith, alignment-most (s .args .align) (s .pre .3))
 
 wrapping-add-u32-requires : tie.Need-wrapping-add-u32-requires Inv-loop μ-loop
 wrapping-add-u32-requires c κs = tt
