@@ -4,24 +4,24 @@ use mathlib.Core.Path.{_≡_, ap, _∙_, subst}
 use mathlib.Core.Bool.{Bool, true, false, not}
 use mathlib.Core.List.{List, _∷_, _++_}
 use mathlib.Core.Option.{none, some}
-use Prim.Native.Nat.{ℕ, _+_, _/_, _≤_, _<_}
+use Prim.Native.Nat.{ℕ, _+_, _-_, _/_, _≤_, _<_}
 use native.Mathlib.Omega.{arith}
 use lib.Dec.{leb, ltb, eqb}
-use lib.ListN.{take}
+use lib.ListN.{length, take}
 use borrow.Author.Tests.{ne-eqb}
 use Rattle.model.specs.Choose.{choose, both, every, only}
 use Rattle.model.specs.Quantities.{Config}
 use Rattle.model.specs.Allocation.{offset, blockAt, insert}
-use Rattle.model.specs.SegmentMap.{isLive, mapOf}
+use Rattle.model.specs.SegmentMap.{isLive, mapOf, rowsOf}
 use Rattle.model.proofs.Choosing.{split, tests, parts, both-left, both-right, every-only, every-weaker, only-append, first-back, first-none}
 use Rattle.model.proofs.Ordered.{Live}
 use Rattle.segments.specs.Rows.{segmentAt, segmentsIn, blocksIn}
 use Rattle.segments.specs.Tiling.{tiles, isMap}
 use Rattle.segments.specs.Search.{hasGranule, RowOf, Found}
 use Rattle.segments.specs.Changes.{replaced, cut}
-use Rattle.segments.proofs.Reading.{rest, row-parted}
+use Rattle.segments.proofs.Reading.{rest, row-parted, row-end}
 use Rattle.segments.proofs.Parted.{startsBefore, startsFrom, tiles-before, row-of}
-use Rattle.segments.proofs.Splitting.{split-rows}
+use Rattle.segments.proofs.Splitting.{split-rows, split-count}
 use Rattle.model.specs.declared.Segment.{Segment}
 use Rattle.segments.specs.declared.Fit.the-variants as fit
 
@@ -81,3 +81,13 @@ pub found-cut : (c : Config) (n g a : ℕ) (ws : List ℕ) (row s : ℕ) (b : Se
     → Live c b → b .start ≡ s → b .length ≡ g → replaced row 1 (cut (segmentAt ws row) b) (segmentsIn n ws) ≡ mapOf c (insert b (blocksIn n ws))
 found-cut c n g a ws row s b m f l p q =
     split-rows c n ws row b (f .room .inUse) m (f .room .free) l (omega (arith, f .room .from)) (omega (arith, f .room .upTo))
+
+-- The rows are then those before, less the one cut, and those that it is cut into.
+pub found-count : (c : Config) (n g a : ℕ) (ws : List ℕ) (row s : ℕ) (b : Segment) → isMap c (segmentsIn n ws) ≡ true → Found c n g a ws (fit.At row s)
+    → Live c b → b .start ≡ s → b .length ≡ g → rowsOf c (insert b (blocksIn n ws)) ≡ n - 1 + length (cut (segmentAt ws row) b)
+found-count c n g a ws row s b m f l p q =
+    split-count c n ws row b (f .room .inUse) m (f .room .free) l (omega (arith, f .room .from)) (omega (arith, f .room .upTo))
+
+-- No row of a map ends after the arena.
+pub row-inside : (c : Config) (n : ℕ) (ws : List ℕ) (i : ℕ) → isMap c (segmentsIn n ws) ≡ true → i < n → segmentAt ws i .start + segmentAt ws i .length ≤ c .granules
+row-inside c n ws i m h = row-end n (c .granules) ws i (search parts) h

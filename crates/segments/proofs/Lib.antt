@@ -4,7 +4,6 @@ pub mod Rows
 pub mod MapTiles
 pub mod TilesMap
 pub mod Reading
-pub mod Every
 pub mod Filled
 pub mod Tiled
 pub mod Padding

@@ -299,7 +299,7 @@ fn gap_rows(from: u32, to: u32) -> usize
 // How many rows a row becomes when it is cut for a block.
 pub fn pieces(s: Segment, block: Segment) -> usize
     requires { ⌜ (block .start + block .length ≤ 4294967295) × (s .start + s .length ≤ 4294967295) ⌝ }
-    ensures { λ r. ⌜ r ≡ length (cut s block) ⌝ }
+    ensures { λ r. ⌜ (r ≡ length (cut s block)) × (r ≤ 3) ⌝ }
 {
     let before = gap_rows(s.start, block.start);
     let after = gap_rows(block.start + block.length, s.start + s.length);

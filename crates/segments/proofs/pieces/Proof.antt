@@ -27,7 +27,7 @@ add-result-2 c = search needs
 returns : tie.Need-returns
 returns c =
     let a = c .before .before .before .before .args in
-    omega (arith, cut-length (a .s) (a .block), c .gap-rows2 .ensures .0, c .before .before .before .gap-rows .ensures .0)
+    (omega (arith, cut-length (a .s) (a .block), c .gap-rows2 .ensures .0, c .before .before .before .gap-rows .ensures .0), omega arith)
 
 pub pieces-spec : {M : Type 1} → statement M
 pieces-spec =

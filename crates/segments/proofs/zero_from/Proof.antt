@@ -7,7 +7,7 @@ use lib.Dec.{eqb}
 use lib.ListN.{length, drop}
 use borrow.Author.Tests.{eq-eqb, ne-eqb}
 use Rattle.model.specs.Choose.{every}
-use Rattle.segments.proofs.Every.{every-more, every-not, every-none}
+use Rattle.model.proofs.Every.{every-more, every-not, every-none}
 use Rattle.segments.proofs.zero_from.Statement.{statement}
 use Rattle.segments.proofs.zero_from.Tie as tie
 
