@@ -173,23 +173,30 @@ module _ (n : ℕ) (ws : List ℕ) (fits : 4 * n ≤ length ws) (i : ℕ) (h : i
   freed-granules = ap granulesOf (rows-read freed-rows) ∙ granules-freed i rows
 
   module _ (m : ℕ) (two : List ℕ) (j : Rewritten n one (joined i (segmentsIn n one)) m two) where
-    joined-rows : Rewritten n ws (joined i (freed i rows)) m two
-    joined-rows =
-        change-fewer (joined i) freed-rows j (omega (arith, length-freed i rows, length-segments n ws)) (length-joined i (freed i rows) .0)
+    -- What is left after row i is joined with the row after it: at most one row fewer, and the same sum of lengths.
+    pub record JoinedOnce : Type 0 where
+      pub rewritten : Rewritten n ws (joined i (freed i rows)) m two
+      pub fewer : m ≤ n
+      pub most : n ≤ m + 1
+      pub granules : granulesOf (segmentsIn m two) ≡ granulesOf rows
 
-    pub joined-fewer : m ≤ n
-    joined-fewer = omega (arith, joined-rows .rows, length-joined i (freed i rows) .0, length-freed i rows, length-segments n ws)
-
-    pub joined-most : n ≤ m + 1
-    joined-most = omega (arith, joined-rows .rows, length-joined i (freed i rows) .1, length-freed i rows, length-segments n ws)
-
-    pub joined-granules : granulesOf (segmentsIn m two) ≡ granulesOf rows
-    joined-granules = ap granulesOf (rows-read joined-rows) ∙ granules-joined i (freed i rows) ∙ granules-freed i rows
+    pub joined-once : JoinedOnce
+    joined-once =
+        let l = length-joined i (freed i rows) in
+        let k : length (freed i rows) ≡ n = length-freed i rows ∙ length-segments n ws in
+        let r : Rewritten n ws (joined i (freed i rows)) m two = change-fewer (joined i) freed-rows j (omega arith) (l .0) in
+        record {
+          rewritten = r;
+          fewer = omega arith;
+          most = omega arith;
+          granules = ap granulesOf (rows-read r) ∙ granules-joined i (freed i rows) ∙ granules-freed i rows;
+        }
 
     pub released-first : i ≤ 0 → Rewritten n ws (released i rows) m two
-    released-first k = rw (le-ltb 0 i k) joined-rows
+    released-first k = rw (le-ltb 0 i k) (joined-once .rewritten)
 
     pub released-rows : 0 < i → (k : ℕ) (three : List ℕ) → Rewritten m two (joined (i - 1) (segmentsIn m two)) k three → Rewritten n ws (released i rows) k three
     released-rows p k three q =
+        let o : JoinedOnce = joined-once in
         rw (lt-ltb 0 i p)
-        (change-fewer (joined (i - 1)) joined-rows q (omega (arith, joined-rows .rows, joined-fewer)) (length-joined (i - 1) (joined i (freed i rows)) .0))
+        (change-fewer (joined (i - 1)) (o .rewritten) q (omega (arith, o .rewritten .rows)) (length-joined (i - 1) (joined i (freed i rows)) .0))

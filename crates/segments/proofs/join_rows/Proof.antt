@@ -42,12 +42,18 @@ same-length-2 c = search needs
 returns-3 : tie.Need-returns-3
 returns-3 c =
     let p = c .before .before .before .before .before .before .before .before .before .before in
-    joined-apart (p .args .rows) (p .args .table .now) (p .pre .1) (p .args .i) (omega (arith, c .before .before .before .before .before .before .before .before .if1 .left)) (ne-eqb _ 0 (λ z. c .if3 .taken (ap (λ (x : Segment). x .owner) (c .before .before .row2 .ensures) ∙ z)))
+    let a = p .args in
+    let e = c .before .before .row2 .ensures in
+    joined-apart (a .rows) (a .table .now) (p .pre .1) (a .i) (omega (arith, c .before .before .before .before .before .before .before .before .if1 .left)) (ne-eqb _ 0 (λ z. c .if3 .taken (ap (λ (x : Segment). x .owner) e ∙ z)))
 
 add-free-run : tie.Need-add-free-run
 add-free-run c =
     let p = c .before .before .before .before .before .before .before .before .before .before .before .before in
-    omega (arith, two-granules (p .args .rows) (p .args .table .now) (p .pre .1) (p .args .i) (omega (arith, c .before .before .before .before .before .before .before .before .before .before .if1 .left)), p .pre .2, ap (λ (x : Segment). x .length) (c .before .before .before .before .before .before .before .before .row .ensures), ap (λ (x : Segment). x .length) (c .before .before .before .before .row2 .ensures))
+    let a = p .args in
+    let two = two-granules (a .rows) (a .table .now) (p .pre .1) (a .i) (omega (arith, c .before .before .before .before .before .before .before .before .before .before .if1 .left)) in
+    let s = ap (λ (x : Segment). x .length) (c .before .before .before .before .before .before .before .before .row .ensures) in
+    let t = ap (λ (x : Segment). x .length) (c .before .before .before .before .row2 .ensures) in
+    omega (arith, p .pre .2)
 
 free-run-requires : tie.Need-free-run-requires
 free-run-requires c κs = search needs
@@ -56,10 +62,14 @@ put-row-requires : tie.Need-put-row-requires
 put-row-requires c κs = search needs
 
 add-remove-row : tie.Need-add-remove-row
-add-remove-row c = omega (arith, c .before .before .before .before .before .before .before .before .before .before .before .before .before .before .before .before .if1 .left, c .before .before .before .before .before .before .before .before .before .before .before .before .before .before .before .before .before .before .fits)
+add-remove-row c =
+    let few = c .before .before .before .before .before .before .before .before .before .before .before .before .before .before .before .before .if1 .left in
+    omega (arith, c .before .before .before .before .before .before .before .before .before .before .before .before .before .before .before .before .before .before .fits)
 
 remove-row-requires : tie.Need-remove-row-requires
-remove-row-requires c κs = (omega (arith, c .before .before .before .before .before .before .before .before .before .before .before .before .before .before .before .before .if1 .left), omega (arith, c .before .before .before .before .before .before .before .before .before .before .before .before .before .before .before .before .before .before .pre .1))
+remove-row-requires c κs =
+    let few = c .before .before .before .before .before .before .before .before .before .before .before .before .before .before .before .before .if1 .left in
+    (omega arith, omega (arith, c .before .before .before .before .before .before .before .before .before .before .before .before .before .before .before .before .before .before .pre .1))
 
 sub-result : tie.Need-sub-result
 sub-result c = search needs
@@ -70,12 +80,16 @@ same-length-3 c = search needs
 returns-4 : tie.Need-returns-4
 returns-4 c =
     let p = c .before .before .before .before .before .before .before .before .before .before .before .before .before .before .before .before .before .before .before .before .before in
+    let a = p .args in
     let s = c .before .before .before .before .before .before .before .before .before .before .before .before .before .before .before .before .before .row in
     let t = c .before .before .before .before .before .before .before .before .before .before .before .before .before .row2 in
-    joined-free (p .args .rows) (p .args .table .now) (p .pre .1) (p .args .i) (omega (arith, c .before .before .before .before .before .before .before .before .before .before .before .before .before .before .before .before .before .before .before .if1 .left)) _ _ _
-    (eq-eqb _ 0 (sym (ap (λ (x : Segment). x .owner) (s .ensures)) ∙ c .before .before .before .before .before .before .before .before .before .before .before .before .before .before .before .if2 .left))
-    (eq-eqb _ 0 (sym (ap (λ (x : Segment). x .owner) (t .ensures)) ∙ c .before .before .before .before .before .before .before .before .before .before .before .if3 .left))
-    (c .before .before .before .before .before .before .before .before .free-run .ensures ∙ (λ j. freeRun (s .ensures j .start) (s .ensures j .length + t .ensures j .length)))
+    let free = c .before .before .before .before .before .before .before .before .before .before .before .before .before .before .before .if2 .left in
+    let next = c .before .before .before .before .before .before .before .before .before .before .before .if3 .left in
+    let run = c .before .before .before .before .before .before .before .before .free-run .ensures in
+    joined-free (a .rows) (a .table .now) (p .pre .1) (a .i) (omega (arith, c .before .before .before .before .before .before .before .before .before .before .before .before .before .before .before .before .before .before .before .if1 .left)) _ _ _
+    (eq-eqb _ 0 (sym (ap (λ (x : Segment). x .owner) (s .ensures)) ∙ free))
+    (eq-eqb _ 0 (sym (ap (λ (x : Segment). x .owner) (t .ensures)) ∙ next))
+    (run ∙ (λ j. freeRun (s .ensures j .start) (s .ensures j .length + t .ensures j .length)))
     (c .before .before .before .before .before .before .put-row .ensures) (c .before .before .remove-row .ensures)
 
 pub join-rows-spec : {M : Type 1} → statement M

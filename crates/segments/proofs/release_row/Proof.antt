@@ -1,7 +1,7 @@
 -- `segments::release_row` meets its contract: the row set free, joined with the row after it, and with the row before it if there is one.
 -- Assumes nothing.
 use native.Mathlib.Omega.{arith}
-use Rattle.segments.proofs.Rewriting.{freed-granules, joined-fewer, joined-most, joined-granules, released-first, released-rows}
+use Rattle.segments.proofs.Rewriting.{freed-granules, joined-once, released-first, released-rows}
 use borrow.Author.Needs.{needs}
 use Rattle.segments.proofs.release_row.Statement.{statement}
 use Rattle.segments.proofs.release_row.Tie as tie
@@ -18,7 +18,11 @@ put-row-requires c κs = search needs
 join-rows-requires : tie.Need-join-rows-requires
 join-rows-requires c κs =
     let p = c .before .before .before .before .before .before .before .before .before in
-    (p .pre .0, omega arith, omega (arith, p .pre .2, freed-granules (p .args .rows) (p .args .table .now) (p .pre .1) (p .args .i) (p .pre .0) _ _ _ (c .before .before .before .before .before .before .row .ensures) (c .before .before .before .before .before .free-run .ensures) (c .before .before .before .put-row .ensures)))
+    let a = p .args in
+    let s = c .before .before .before .before .before .before .row .ensures in
+    let r = c .before .before .before .before .before .free-run .ensures in
+    let e = c .before .before .before .put-row .ensures in
+    (p .pre .0, omega arith, omega (arith, p .pre .2, freed-granules (a .rows) (a .table .now) (p .pre .1) (a .i) (p .pre .0) _ _ _ s r e))
 
 sub-join-rows : tie.Need-sub-join-rows
 sub-join-rows c = search needs
@@ -26,9 +30,12 @@ sub-join-rows c = search needs
 join-rows-requires-2 : tie.Need-join-rows-requires-2
 join-rows-requires-2 c κs =
     let p = c .before .before .before .before .before .before .before .before .before .before .before .before .before .before in
-    let few = joined-fewer (p .args .rows) (p .args .table .now) (p .pre .1) (p .args .i) (p .pre .0) _ _ _ (c .before .before .before .before .before .before .before .before .before .before .before .row .ensures) (c .before .before .before .before .before .before .before .before .before .before .free-run .ensures) (c .before .before .before .before .before .before .before .before .put-row .ensures) _ _ (c .before .before .before .before .join-rows .ensures) in
-    let most = joined-most (p .args .rows) (p .args .table .now) (p .pre .1) (p .args .i) (p .pre .0) _ _ _ (c .before .before .before .before .before .before .before .before .before .before .before .row .ensures) (c .before .before .before .before .before .before .before .before .before .before .free-run .ensures) (c .before .before .before .before .before .before .before .before .put-row .ensures) _ _ (c .before .before .before .before .join-rows .ensures) in
-    let sum = joined-granules (p .args .rows) (p .args .table .now) (p .pre .1) (p .args .i) (p .pre .0) _ _ _ (c .before .before .before .before .before .before .before .before .before .before .before .row .ensures) (c .before .before .before .before .before .before .before .before .before .before .free-run .ensures) (c .before .before .before .before .before .before .before .before .put-row .ensures) _ _ (c .before .before .before .before .join-rows .ensures) in
+    let a = p .args in
+    let s = c .before .before .before .before .before .before .before .before .before .before .before .row .ensures in
+    let r = c .before .before .before .before .before .before .before .before .before .before .free-run .ensures in
+    let e = c .before .before .before .before .before .before .before .before .put-row .ensures in
+    let j = c .before .before .before .before .join-rows .ensures in
+    let once = joined-once (a .rows) (a .table .now) (p .pre .1) (a .i) (p .pre .0) _ _ _ s r e _ _ j in
     (omega (arith, p .pre .0, c .before .if1 .taken), omega (arith, p .pre .1), omega (arith, p .pre .2))
 
 same-length : tie.Need-same-length
@@ -37,8 +44,12 @@ same-length c = search needs
 returns : tie.Need-returns
 returns c =
     let p = c .before .before .before .before .before .before .before .before .before .before .before .before .before .before .before .before .before in
-    released-rows (p .args .rows) (p .args .table .now) (p .pre .1) (p .args .i) (p .pre .0) _ _ _ (c .before .before .before .before .before .before .before .before .before .before .before .before .before .before .row .ensures) (c .before .before .before .before .before .before .before .before .before .before .before .before .before .free-run .ensures) (c .before .before .before .before .before .before .before .before .before .before .before .put-row .ensures) _ _ (c .before .before .before .before .before .before .before .join-rows .ensures)
-    (omega (arith, c .before .before .before .before .if1 .taken)) _ _ (c .before .before .join-rows2 .ensures)
+    let a = p .args in
+    let s = c .before .before .before .before .before .before .before .before .before .before .before .before .before .before .row .ensures in
+    let r = c .before .before .before .before .before .before .before .before .before .before .before .before .before .free-run .ensures in
+    let e = c .before .before .before .before .before .before .before .before .before .before .before .put-row .ensures in
+    let j = c .before .before .before .before .before .before .before .join-rows .ensures in
+    released-rows (a .rows) (a .table .now) (p .pre .1) (a .i) (p .pre .0) _ _ _ s r e _ _ j (omega (arith, c .before .before .before .before .if1 .taken)) _ _ (c .before .before .join-rows2 .ensures)
 
 same-length-2 : tie.Need-same-length-2
 same-length-2 c = search needs
@@ -46,7 +57,12 @@ same-length-2 c = search needs
 returns-2 : tie.Need-returns-2
 returns-2 c =
     let p = c .before .before .before .before .before .before .before .before .before .before .before .before .before in
-    released-first (p .args .rows) (p .args .table .now) (p .pre .1) (p .args .i) (p .pre .0) _ _ _ (c .before .before .before .before .before .before .before .before .before .before .row .ensures) (c .before .before .before .before .before .before .before .before .before .free-run .ensures) (c .before .before .before .before .before .before .before .put-row .ensures) _ _ (c .before .before .before .join-rows .ensures) (omega arith)
+    let a = p .args in
+    let s = c .before .before .before .before .before .before .before .before .before .before .row .ensures in
+    let r = c .before .before .before .before .before .before .before .before .before .free-run .ensures in
+    let e = c .before .before .before .before .before .before .before .put-row .ensures in
+    let j = c .before .before .before .join-rows .ensures in
+    released-first (a .rows) (a .table .now) (p .pre .1) (a .i) (p .pre .0) _ _ _ s r e _ _ j (omega arith)
 
 pub release-row-spec : {M : Type 1} → statement M
 release-row-spec =

@@ -35,14 +35,17 @@ add-insert-gap c = search needs
 insert-gap-requires : tie.Need-insert-gap-requires
 insert-gap-requires c κs =
     let a = c .before .before .before .before .before .before .before .before .before .before .args in
-    let s = c .before .before .before .before .before .before .before .row in
-    (omega arith, omega (arith, cut-length (segmentAt (a .table .now) (a .i)) (a .block), ap (λ (x : Segment). length (gap (a .block .start + a .block .length) (x .start + x .length))) (s .ensures)))
+    let s = c .before .before .before .before .before .before .before .row .ensures in
+    let after = ap (λ (x : Segment). length (gap (a .block .start + a .block .length) (x .start + x .length))) s in
+    (omega arith, omega (arith, cut-length (segmentAt (a .table .now) (a .i)) (a .block)))
 
 insert-gap-requires-2 : tie.Need-insert-gap-requires-2
 insert-gap-requires-2 c κs =
     let a = c .before .before .before .before .before .before .before .before .before .before .before .before .before .before .args in
-    let s = c .before .before .before .before .before .before .before .before .before .before .before .row in
-    (omega arith, omega (arith, cut-length (segmentAt (a .table .now) (a .i)) (a .block), ap (λ (x : Segment). length (gap (x .start) (a .block .start))) (s .ensures), ap (λ (x : Segment). length (gap (a .block .start + a .block .length) (x .start + x .length))) (s .ensures)))
+    let s = c .before .before .before .before .before .before .before .before .before .before .before .row .ensures in
+    let before = ap (λ (x : Segment). length (gap (x .start) (a .block .start))) s in
+    let after = ap (λ (x : Segment). length (gap (a .block .start + a .block .length) (x .start + x .length))) s in
+    (omega arith, omega (arith, cut-length (segmentAt (a .table .now) (a .i)) (a .block)))
 
 same-length : tie.Need-same-length
 same-length c = search needs
@@ -51,8 +54,11 @@ returns : tie.Need-returns
 returns c =
     let p = c .before .before .before .before .before .before .before .before .before .before .before .before .before .before .before .before .before in
     let a = p .args in
-    cut-rows (a .rows) (a .table .now) (omega (arith, cut-length (segmentAt (a .table .now) (a .i)) (a .block))) (a .i) (p .pre .0) _ (a .block) _ _ _ _ _
-    (c .before .before .before .before .before .before .before .before .before .before .before .before .before .before .row .ensures) (c .before .before .before .before .before .before .before .before .before .before .put-row .ensures) (c .before .before .before .before .before .before .insert-gap .ensures .1) (c .before .before .insert-gap2 .ensures .1)
+    let fits = cut-length (segmentAt (a .table .now) (a .i)) (a .block) in
+    let s = c .before .before .before .before .before .before .before .before .before .before .before .before .before .before .row .ensures in
+    let e = c .before .before .before .before .before .before .before .before .before .before .put-row .ensures in
+    cut-rows (a .rows) (a .table .now) (omega arith) (a .i) (p .pre .0) _ (a .block) _ _ _ _ _ s e
+    (c .before .before .before .before .before .before .insert-gap .ensures .1) (c .before .before .insert-gap2 .ensures .1)
 
 pub split-row-spec : {M : Type 1} → statement M
 split-row-spec =
