@@ -1,6 +1,6 @@
 -- What a caller makes of what it found in the rows: the block at a byte, and the map with a block placed where first fit said.
 -- Assumes nothing.
-use mathlib.Core.Path.{_≡_, ap, _∙_, subst}
+use mathlib.Core.Path.{_≡_, refl, ap, _∙_, subst}
 use mathlib.Core.Bool.{Bool, true, false, not}
 use mathlib.Core.List.{List, _∷_, _++_}
 use mathlib.Core.Option.{none, some}
@@ -13,7 +13,7 @@ use Rattle.model.specs.Choose.{choose, both, every, only}
 use Rattle.model.specs.Quantities.{Config}
 use Rattle.model.specs.Allocation.{offset, blockAt, insert}
 use Rattle.model.specs.SegmentMap.{isLive, mapOf, rowsOf}
-use Rattle.model.proofs.Choosing.{split, tests, parts, both-left, both-right, every-only, every-weaker, only-append, first-back, first-none}
+use Rattle.model.proofs.Choosing.{split, tests, clash, parts, both-left, both-right, every-only, every-weaker, only-append, first-back, first-none}
 use Rattle.model.proofs.Ordered.{Live}
 use Rattle.segments.specs.Rows.{segmentAt, segmentsIn, blocksIn}
 use Rattle.segments.specs.Tiling.{tiles, isMap}
@@ -56,6 +56,11 @@ module _ (x : ℕ) where
         (λ q. let k : here r ≡ false = rw q at n in rw (q, k) (first-none here (only isLive zs) (higher high)))
         (λ q. rw q (first-none here (only isLive zs) (higher high))))
 
+-- what it says that a granule is in a segment
+granule-in : (x : ℕ) (s : Segment) → hasGranule x s ≡ true → (s .start ≤ x) × (x < s .start + s .length)
+granule-in x s h =
+    split (leb (s .start) x) (λ p. let q = rw p at h in (omega tests, omega tests)) (λ p. absurd (clash false (rw p at h) refl))
+
 -- The block at byte x, whatever x is: it is the row of that byte's granule if that is live and begins there, and else there is none.
 pub block-row : (c : Config) (n : ℕ) (ws : List ℕ) (x row : ℕ) → isMap c (segmentsIn n ws) ≡ true → RowOf n (x / 16) ws row
     → blockAt x (blocksIn n ws) ≡ choose (both (isLive (segmentAt ws row)) (eqb (offset (segmentAt ws row)) x)) (some (segmentAt ws row)) none
@@ -69,10 +74,8 @@ block-row c n ws x row m r =
     (λ q. rw q (ap (λ k. blockAt x (only isLive k)) e ∙ at-row x c (take row xs) (rest n (row + 1) ws) s m′ (both-left (isLive s) (here x s) q) (both-right (isLive s) (here x s) q)))
     (λ q. rw q
     (split (ltb (x / 16) (c .granules))
-    (λ k. let h : hasGranule (x / 16) s ≡ true = r .has (c .granules) t (omega tests) in
-    let low : leb (s .start) (x / 16) ≡ true = search parts in
-    let high : ltb (x / 16) (s .start + s .length) ≡ true = search parts in
-    ap (λ k. blockAt x (only isLive k)) e ∙ at-none x c (take row xs) (rest n (row + 1) ws) s m′ (omega tests) (omega tests) q)
+    (λ k. let g = granule-in (x / 16) s (r .has (c .granules) t (omega tests)) in
+    ap (λ k. blockAt x (only isLive k)) e ∙ at-none x c (take row xs) (rest n (row + 1) ws) s m′ (g .0) (g .1) q)
     (λ k. first-none (here x) (only isLive xs)
     (every-only (elsewhere x) isLive xs (every-weaker (startsBefore (c .granules)) (elsewhere x) (λ y h. other x y (λ e. omega tests)) xs (tiles-before 0 (c .granules) xs t))))))
 

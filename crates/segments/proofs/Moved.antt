@@ -5,7 +5,7 @@ use mathlib.Core.List.{List, [], _∷_, _++_, append-assoc}
 use Prim.Native.Nat.{ℕ, suc, _+_, _≤_, _<_}
 use native.Mathlib.Omega.{arith}
 use native.Mathlib.Numerals.{add-one}
-use lib.ListN.{length, getD, set, take, drop, length-append, length-take, length-drop, take-append-drop, drop-of-length-le, List·getD-append}
+use lib.ListN.{length, getD, set, take, drop, length-take, length-drop, take-append-drop, drop-of-length-le, List·getD-append}
 use lib.Seq.{take-suc, drop-cons, set-at, getD-take, getD-drop, length-take-le, sets-eq, getD-append-add, take-at, drop-append-add, drop-drop}
 
 -- the words of p from i on of the first n stand a row higher
@@ -17,9 +17,6 @@ module _ (p : List ℕ) (n : ℕ) (fits : n + 4 ≤ length p) where
   up-none =
       let z : length (take n p) ≤ n = simp length-take (omega arith) in
       rw (drop-of-length-le (take n p) z) (sym (take-append-drop (n + 4) p))
-
-  pub up-length : (i : ℕ) → i ≤ n → length (movedUp p n i) ≡ length p
-  up-length i h = simp (length-append, length-take, length-drop) (omega arith)
 
   pub up-more : (j : ℕ) → j < n → set (movedUp p n (j + 1)) (j + 4) (getD (movedUp p n (j + 1)) j 0) ≡ movedUp p n j
   up-more j h =
@@ -48,9 +45,6 @@ abbrev pub movedDown : List ℕ → ℕ → List ℕ
 movedDown p i = take i (drop 4 p) ++ drop i p
 
 module _ (p : List ℕ) where
-  pub down-length : (i : ℕ) → i + 4 ≤ length p → length (movedDown p i) ≡ length p
-  down-length i h = simp (length-append, length-take, length-drop) (omega arith)
-
   pub down-more : (i : ℕ) → i + 4 < length p → set (movedDown p i) i (getD (movedDown p i) (i + 4) 0) ≡ movedDown p (i + 1)
   down-more i h =
       let front : List ℕ = take i (drop 4 p) in

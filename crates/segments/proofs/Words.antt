@@ -4,7 +4,7 @@ use mathlib.Core.Path.{_≡_, refl, sym, ap, _∙_}
 use mathlib.Core.List.{List, [], _∷_, _++_, append-assoc, append-nil}
 use Prim.Native.Nat.{ℕ, zero, suc, _+_, _*_, _-_, _≤_, _<_, max}
 use native.Mathlib.Omega.{arith}
-use lib.ListN.{length, take, drop, replicate, length-append, length-take, length-drop, length-replicate, take-append-drop, drop-of-length-le}
+use lib.ListN.{length, take, drop, replicate, length-append, length-take, length-drop, take-append-drop, drop-of-length-le}
 use lib.Seq.{take-all, take-at, drop-at, drop-append-add, drop-drop, length-take-le}
 use borrow.Rule.Slice.PartMut.{midOf, putMid}
 use Rattle.segments.specs.Rows.{wordsOf, tableOf, segmentAt, segmentsIn, withRow, withRows}
@@ -60,11 +60,6 @@ module _ (n : ℕ) (ws : List ℕ) (xs : List Segment) where
 
   pub fewer-rows : length xs ≤ n → withRows n ws xs ≡ wordsOf xs ++ (replicate (4 * (n - length xs)) 0 ++ drop (4 * n) ws)
   fewer-rows h = let y : max n (length xs) ≡ n = omega arith in rw y
-
-  -- The table stays as long as it was.
-  pub length-rows : 4 * n ≤ length ws → 4 * length xs ≤ length ws → length (withRows n ws xs) ≡ length ws
-  length-rows h k =
-      simp (length-append, length-replicate, length-drop) (omega (arith, length-words xs))
 
 pub length-replaced : (i k : ℕ) (new xs : List Segment) → i + k ≤ length xs → length (replaced i k new xs) ≡ length xs - k + length new
 length-replaced i k new xs h = simp (length-append, length-take, length-drop) (omega arith)
