@@ -11,7 +11,7 @@ use Rattle.model.proofs.Ordered.{Ordered}
 use Rattle.model.proofs.Disjoint as disjoint
 use Rattle.model.proofs.Disjoint.{hasByte}
 use Rattle.heap.specs.Calls.{init}
-use Rattle.heap.proofs.Init.{init-range, fresh-kept}
+use Rattle.heap.proofs.Making.{init-range, fresh-kept}
 use Rattle.guarantee.specs.Lists.{Call}
 use Rattle.guarantee.specs.Guarantee.{stateAfter}
 use Rattle.guarantee.proofs.Guarantee.{kept-after}

@@ -24,7 +24,7 @@ use Rattle.heap.specs.Stored.{Stored}
 use Rattle.heap.specs.Valid.{valid}
 use Rattle.heap.specs.Calls.{isValid, config, state, allocAligned, afterAllocAligned, free, afterFree, arenaAfterFree, blockSize, totalsOf, holdingOf, init, afterInit, arenaAfterInit, zeroHeap}
 use Rattle.heap.proofs.ValidStored.{valid-kept}
-use Rattle.heap.proofs.Init.{none-applies, init-range, fresh-rows, fresh-table, zero-invalid, init-reason}
+use Rattle.heap.proofs.Making.{none-applies, init-range, fresh-rows, fresh-table, zero-invalid, init-reason}
 use Rattle.model.specs.declared.Plan.{Plan}
 use Rattle.model.specs.declared.Refusal.{Refusal}
 use Rattle.model.specs.declared.Refusal.the-variants as refusal

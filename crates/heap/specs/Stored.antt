@@ -13,6 +13,10 @@ pub record Stored : Type 0 where
   pub heap : Heap
   pub words : List ℕ
 
+-- A call is handed a record and a table's words.
+abbrev pub handed : Heap → List ℕ → Stored
+handed r ws = record { heap = r; words = ws }
+
 -- The record holds the table's rows, the rows in use, the arena's granules, used, peak and the sixteen quotas.
 abbrev pub recordFor : Config → State → Heap
 recordFor c h =

@@ -2,7 +2,7 @@
 -- Assumes nothing.
 use mathlib.Core.Path.{_≡_, refl}
 use mathlib.Core.Bool.{Bool, true, false}
-use mathlib.Core.List.{[], _∷_, _++_}
+use mathlib.Core.List.{_++_}
 use mathlib.Core.Option.{none, some}
 use Prim.Native.Nat.{ℕ, _+_, _≤_, _<_}
 use lib.Dec.{ltb}
@@ -12,15 +12,26 @@ use Rattle.model.specs.Choose.{total}
 use Rattle.model.specs.Quantities.{isOwner, isAlignment, Config, quota}
 use Rattle.model.specs.Allocation.{needed, charge, State, lowestStart, block, fit, insert, ownedBy}
 use Rattle.model.specs.SegmentMap.{rowsOf}
-use Rattle.model.specs.Reasons.{noPlace, tableFull}
-use Rattle.model.specs.Orders.{Order, firstReason, properOrder, quotaOrder, allocOrder}
+use Rattle.model.specs.Orders.{firstReason, properOrder, quotaOrder, placeOrder, allocOrder}
 use Rattle.model.proofs.Choosing.{splitOption, tests, parts, clash}
 use Rattle.model.proofs.Refusing.{NoReason, no-reason, no-first, no-second}
-use Rattle.model.specs.declared.Refusal.{Refusal}
 
--- 7, 8: the last of an allocation's order
-abbrev pub placeOrder : Config → State → ℕ → ℕ → ℕ → Order Refusal
-placeOrder c h o n a = noPlace (fit c (h .blocks) o n a) ∷ tableFull c (h .blocks) (fit c (h .blocks) o n a) ∷ []
+-- a proper allocation
+pub record Proper (o n a : ℕ) : Type 0 where
+  pub owned : 1 ≤ o
+  pub known : o ≤ 8
+  pub size : 1 ≤ n
+  pub alignment : isAlignment a ≡ true
+
+pub proper : (o n a : ℕ) → NoReason (properOrder o n a) → Proper o n a
+proper o n a r =
+    let owner : isOwner o ≡ true = not-false (isOwner o) (r .0) in
+    record {
+      owned = leb-true 1 o (search parts);
+      known = leb-true o 8 (search parts);
+      size = omega tests;
+      alignment = not-false (isAlignment a) (r .1 .1 .0);
+    }
 
 module _ (c : Config) (h : State) where
   -- an allocation within limits
@@ -34,12 +45,12 @@ module _ (c : Config) (h : State) where
 
   pub limits : (o n a : ℕ) → NoReason (properOrder o n a ++ quotaOrder c h o n) → Limits o n a
   limits o n a r =
-      let owner : isOwner o ≡ true = not-false (isOwner o) (r .0) in
+      let p : Proper o n a = proper o n a (no-first (properOrder o n a) (quotaOrder c h o n) r) in
       record {
-        owned = leb-true 1 o (search parts);
-        known = leb-true o 8 (search parts);
-        size = omega tests;
-        alignment = not-false (isAlignment a) (r .1 .1 .0);
+        owned = p .owned;
+        known = p .known;
+        size = p .size;
+        alignment = p .alignment;
         blocks = omega tests;
         granules = omega tests;
       }

@@ -1,14 +1,16 @@
 -- What the ranges of the quantities say, as orders and equations.
 -- Assumes nothing.
-use mathlib.Core.Path.{_≡_}
-use mathlib.Core.Bool.{true}
-use Prim.Native.Nat.{ℕ, _*_, _%_, _≤_}
+use mathlib.Core.Path.{_≡_, refl}
+use mathlib.Core.Bool.{Bool, true}
+use mathlib.Core.List.{List, [], _∷_}
+use Prim.Native.Nat.{ℕ, zero, suc, _+_, _-_, _*_, _%_, _≤_, _<_}
 use native.Mathlib.Omega.{arith}
-use lib.Dec.{leb}
-use lib.ListN.{length}
+use lib.Dec.{leb, eqb}
+use lib.ListN.{length, getD}
 use borrow.Author.Tests.{leb-true, le-leb, eqb-true}
-use Rattle.model.specs.Quantities.{within, isArena, isTable, Config, inRange}
-use Rattle.model.proofs.Choosing.{both-left, both-right, parts}
+use Rattle.model.specs.Choose.{every}
+use Rattle.model.specs.Quantities.{within, isArena, isTable, owners, Config, inRange, quota}
+use Rattle.model.proofs.Choosing.{split, tests, both-left, both-right, both-true, parts, every-head, every-tail}
 
 -- the bounds of a range
 pub within-least : (least most x : ℕ) → within least most x ≡ true → least ≤ x
@@ -19,6 +21,34 @@ within-most least most x e = leb-true x most (both-right (leb least x) (leb x mo
 
 pub bounds-within : (least most x : ℕ) → least ≤ x → x ≤ most → within least most x ≡ true
 bounds-within least most x h k = rw (le-leb least x h, le-leb x most k)
+
+-- the n numbers from i on: `upFrom 1 8` computes to the list of owners
+abbrev upFrom : ℕ → ℕ → List ℕ
+upFrom i zero = []
+upFrom i (suc n) = i ∷ upFrom (suc i) n
+
+at-from : (p : ℕ → Bool) (i n o : ℕ) → every p (upFrom i n) ≡ true → i ≤ o → o < i + n → p o ≡ true
+at-from p i zero o e h k = absurd (omega arith)
+at-from p i (suc n) o e h k =
+    split (eqb i o)
+    (λ q. rw (← eqb-true i o q) (every-head p i (upFrom (suc i) n) e))
+    (λ q. at-from p (suc i) n o (every-tail p i (upFrom (suc i) n) e) (omega tests) (omega arith))
+
+from-all : (p : ℕ → Bool) (i n : ℕ) → ((o : ℕ) → i ≤ o → o < i + n → p o ≡ true) → every p (upFrom i n) ≡ true
+from-all p i zero h = refl
+from-all p i (suc n) h = both-true _ _ (h i (omega arith) (omega arith)) (from-all p (suc i) n (λ o a b. h o (omega arith) (omega arith)))
+
+-- what holds of all owners holds of each, and the other way round
+pub each-owner : (p : ℕ → Bool) → every p owners ≡ true → (o : ℕ) → 1 ≤ o → o ≤ 8 → p o ≡ true
+each-owner p e o h k = at-from p 1 8 o e h (omega arith)
+
+pub all-owners : (p : ℕ → Bool) → ((o : ℕ) → 1 ≤ o → o ≤ 8 → p o ≡ true) → every p owners ≡ true
+all-owners p h = from-all p 1 8 (λ o a b. h o a (omega arith))
+
+-- an owner's quota is at its place
+pub quota-at : (qs : List ℕ) (o : ℕ) → 1 ≤ o → quota qs o ≡ getD qs (o - 1) 0
+quota-at qs zero h = absurd (omega arith)
+quota-at qs (suc i) h = let z : suc i - 1 ≡ i = omega arith in rw z
 
 -- an arena is a whole number of granules, a table a whole number of rows
 pub arena-whole : (n : ℕ) → isArena n ≡ true → n % 16 ≡ 0
@@ -40,3 +70,9 @@ module _ (c : Config) (e : inRange c ≡ true) where
 
   pub some-rows : 1 ≤ c .capacity
   some-rows = let r : within 4 2048 (4 * c .capacity) ≡ true = search parts in omega (arith, within-least 4 2048 (4 * c .capacity) r)
+
+  pub few-granules : c .granules ≤ 65536
+  few-granules = let r : within 16 1048576 (16 * c .granules) ≡ true = search parts in omega (arith, within-most 16 1048576 (16 * c .granules) r)
+
+  pub few-rows : c .capacity ≤ 512
+  few-rows = let r : within 4 2048 (4 * c .capacity) ≡ true = search parts in omega (arith, within-most 4 2048 (4 * c .capacity) r)

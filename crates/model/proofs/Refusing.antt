@@ -39,6 +39,15 @@ pub no-both : {R : Type 0} (rs ts : Order R) → NoReason rs → NoReason ts →
 no-both [] ts n m = m
 no-both (r ∷ rs) ts n m = (n .0, no-both rs ts (n .1) m)
 
+-- the first of an order and then another
+pub first-then : {R : Type 0} (rs ts : Order R) → firstReason rs ≡ none → firstReason (rs ++ ts) ≡ firstReason ts
+first-then [] ts e = refl
+first-then (r ∷ rs) ts e = let n = no-reason (r ∷ rs) e in rw (n .0) (first-then rs ts (reason-none rs (n .1)))
+
+pub first-stays : {R : Type 0} (rs ts : Order R) (why : R) → firstReason rs ≡ some why → firstReason (rs ++ ts) ≡ some why
+first-stays [] ts why e = let w : _≡_ {A = ℕ} 0 1 = cc in absurd (omega arith)
+first-stays (r ∷ rs) ts why e = split (r .0) (λ q. rw q (rw q at e)) (λ q. rw q (first-stays rs ts why (rw q at e)))
+
 -- a call whose answer is a refusal found a reason
 pub refused-some : {R A : Type 0} (order : Order R) (a : A) (refused : R → A) (r : R) → (a ≡ refused r → ⊥)
     → unless order a refused ≡ refused r → (t : R) × (firstReason order ≡ some t)

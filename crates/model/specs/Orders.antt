@@ -74,3 +74,11 @@ properOrder o n a = badOwner o ∷ zeroSize n ∷ badAlignment a ∷ []
 -- A proper allocation is document 01's "within limits" if neither of 5, 6 applies.
 abbrev pub quotaOrder : Config → State → ℕ → ℕ → Order Refusal
 quotaOrder c h o n = blockQuotaReached c (h .blocks) o ∷ granuleQuotaExceeded c (h .blocks) o n ∷ []
+
+-- 7 and 8 are the last of an allocation's order.
+abbrev pub placeOrder : Config → State → ℕ → ℕ → ℕ → Order Refusal
+placeOrder c h o n a = noPlace (fit c (h .blocks) o n a) ∷ tableFull c (h .blocks) (fit c (h .blocks) o n a) ∷ []
+
+-- 2, 9 and 10 are the last of a free's order and of a block size's: what is asked of an owner and an offset.
+abbrev pub blockOrder : State → ℕ → ℕ → Order Refusal
+blockOrder h o x = badOwner o ∷ notABlock (h .blocks) x ∷ otherOwner (h .blocks) o x ∷ []

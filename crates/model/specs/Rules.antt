@@ -47,15 +47,47 @@ placing c h o n a = changed h (put (fit c (h .blocks) o n a) (h .blocks))
 abbrev pub releasing : State → ℕ → State
 releasing h x = changed h (without x (h .blocks))
 
+-- The block of an allocation begins at so many bytes, 0 if there is none.
+abbrev pub offsetFor : Config → State → ℕ → ℕ → ℕ → ℕ
+offsetFor c h o n a = given (fit c (h .blocks) o n a) 0 offset
+
 -- The block at x holds so many bytes, 0 if there is none.
 abbrev pub bytesAt : State → ℕ → ℕ
 bytesAt h x = given (blockAt x (h .blocks)) 0 bytes
+
+-- The block at x was requested with so many bytes, 0 if there is none.
+abbrev pub requestedAt : State → ℕ → ℕ
+requestedAt h x = given (blockAt x (h .blocks)) 0 (λ b. b .requested)
+
+-- Used is so many bytes.
+abbrev pub usedBytes : State → ℕ
+usedBytes h = 16 * granulesOf (h .blocks)
+
+-- Free is so many bytes.
+abbrev pub freeBytes : Config → State → ℕ
+freeBytes c h = 16 * freeGranules c (h .blocks)
+
+-- Peak is so many bytes.
+abbrev pub peakBytes : State → ℕ
+peakBytes h = 16 * h .peak
+
+-- The longest free run is so many bytes.
+abbrev pub longestBytes : Config → State → ℕ
+longestBytes c h = 16 * longestFree c (h .blocks)
+
+-- An owner has so many live blocks.
+abbrev pub ownedBlocks : State → ℕ → ℕ
+ownedBlocks h o = length (ownedBy o (h .blocks))
+
+-- They hold so many bytes.
+abbrev pub ownedBytes : State → ℕ → ℕ
+ownedBytes h o = 16 * granulesOf (ownedBy o (h .blocks))
 
 -- Every other call is told whether the record and the table are a valid heap, what that was made with, and its state.
 module _ (isValid : Bool) (c : Config) (h : State) where
   -- An allocation of n bytes on a boundary of a bytes answers the byte offset of its block.
   abbrev pub alloc : ℕ → ℕ → ℕ → Placed
-  alloc o n a = unless (allocOrder isValid c h o n a) (placed.At (given (fit c (h .blocks) o n a) 0 offset)) placed.Refused
+  alloc o n a = unless (allocOrder isValid c h o n a) (placed.At (offsetFor c h o n a)) placed.Refused
 
   -- Its block is live then, unless it is refused.
   abbrev pub afterAlloc : ℕ → ℕ → ℕ → State
@@ -84,18 +116,14 @@ module _ (isValid : Bool) (c : Config) (h : State) where
   -- A block's size is the bytes requested and the bytes held.
   abbrev pub blockSize : ℕ → ℕ → BlockSize
   blockSize o x =
-      unless (blockSizeOrder isValid h o x)
-      (size.Bytes (given (blockAt x (h .blocks)) 0 (λ b. b .requested)) (bytesAt h x)) size.Refused
+      unless (blockSizeOrder isValid h o x) (size.Bytes (requestedAt h x) (bytesAt h x)) size.Refused
 
   -- The totals are used, free, peak and the longest free run, all in bytes.
   abbrev pub totalsOf : Totals
   totalsOf =
-      unless (totalsOrder isValid)
-      (totals.Bytes (16 * granulesOf (h .blocks)) (16 * freeGranules c (h .blocks)) (16 * h .peak) (16 * longestFree c (h .blocks)))
-      totals.Refused
+      unless (totalsOrder isValid) (totals.Bytes (usedBytes h) (freeBytes c h) (peakBytes h) (longestBytes c h)) totals.Refused
 
   -- What one owner holds is its blocks, and the bytes that they hold.
   abbrev pub holdingOf : ℕ → Holding
   holdingOf o =
-      unless (holdingOrder isValid o)
-      (holding.Of (length (ownedBy o (h .blocks))) (16 * granulesOf (ownedBy o (h .blocks)))) holding.Refused
+      unless (holdingOrder isValid o) (holding.Of (ownedBlocks h o) (ownedBytes h o)) holding.Refused

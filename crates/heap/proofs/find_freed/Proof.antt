@@ -1,0 +1,42 @@
+-- `heap::find_freed` meets its contract: after 1 and 11 the rest of its order is that of `find_row`.
+-- Assumes nothing.
+use mathlib.Core.Path.{sym, _∙_}
+use Prim.Native.Nat.{_*_}
+use lib.ListN.{length}
+use borrow.Author.Needs.{needs}
+use borrow.Author.Tests.{not-true, not-false, ne-eqb}
+use Rattle.model.specs.Orders.{freeOrder}
+use Rattle.heap.proofs.Freeing.{free-decided}
+use Rattle.heap.proofs.find_freed.Statement.{statement}
+use Rattle.heap.proofs.find_freed.Tie as tie
+
+is-valid-requires : tie.Need-is-valid-requires
+is-valid-requires c κs = search needs
+
+returns : tie.Need-returns
+unfolding freeOrder
+returns c = rw (sym (c .before .is-valid .ensures) ∙ not-true _ (c .if1 .taken))
+
+cast-if2 : tie.Need-cast-if2
+cast-if2 c = search needs
+
+mul-if2 : tie.Need-mul-if2
+mul-if2 c = search needs
+
+returns-2 : tie.Need-returns-2
+unfolding freeOrder
+returns-2 c =
+    let a = c .before .before .before .before .before .before .args in
+    rw (sym (c .before .before .before .is-valid .ensures) ∙ not-false _ (c .before .before .if1 .left), ne-eqb (length (a .arena .now)) (16 * a .heap .granules) (c .if2 .taken))
+
+find-row-requires : tie.Need-find-row-requires
+find-row-requires c κs = sym (c .before .before .before .is-valid .ensures) ∙ not-false _ (c .before .before .if1 .left)
+
+returns-3 : tie.Need-returns-3
+returns-3 c =
+    free-decided _ _ _ _ _ (sym (c .before .before .before .before .is-valid .ensures) ∙ not-false _ (c .before .before .before .if1 .left)) (c .before .if2 .left) (c .find-row .result) (c .find-row .ensures)
+
+pub find-freed-spec : {M : Type 1} → statement M
+find-freed-spec =
+    tie.close
+    (tie.spec is-valid-requires returns cast-if2 mul-if2 returns-2 find-row-requires returns-3)

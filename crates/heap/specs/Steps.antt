@@ -1,0 +1,93 @@
+-- What the functions within the crate decide and leave, step by step: a caller needs none of it.
+-- Assumes nothing.
+use Prim.Native.Nat.{ℕ, _-_, _*_, _<_, max}
+use mathlib.Core.Path.{_≡_}
+use mathlib.Core.Bool.{Bool, true}
+use mathlib.Core.List.{List, _++_}
+use mathlib.Core.Option.{Option, none, some}
+use lib.Dec.{leb, eqb}
+use lib.ListN.{length, getD, drop}
+use Rattle.model.specs.Choose.{both, every}
+use Rattle.model.specs.Quantities.{within, owners, inRange, quota}
+use Rattle.model.specs.Allocation.{needed, lowestStart, blockAt, offset}
+use Rattle.model.specs.SegmentMap.{isLive}
+use Rattle.model.specs.Orders.{Order, firstReason, allocOrder, properOrder, quotaOrder, placeOrder}
+use Rattle.segments.specs.Rows.{segmentAt, blocksIn}
+use Rattle.segments.specs.Search.{Room}
+use Rattle.segments.specs.Counting.{Counted}
+use Rattle.heap.specs.Stored.{configOf, stateIn}
+use Rattle.heap.specs.Valid.{valid}
+use Rattle.model.specs.declared.Segment.{Segment}
+use Rattle.model.specs.declared.Refusal.{Refusal}
+use Rattle.segments.specs.declared.Census.{Census}
+use Rattle.heap.specs.declared.Heap.{Heap}
+use Rattle.heap.specs.declared.Verdict.{Verdict}
+use Rattle.heap.specs.declared.Verdict.the-variants as verdict
+use Rattle.heap.specs.declared.Place.{Place}
+use Rattle.heap.specs.declared.Place.the-variants as place
+use Rattle.heap.specs.declared.Lookup.{Lookup}
+use Rattle.heap.specs.declared.Lookup.the-variants as lookup
+
+-- The conditions of a valid heap that can be told without a look at a row: the ranges, the table's length, and that the rows in use are 1 to its rows.
+abbrev pub framed : Heap → List ℕ → Bool
+framed r ws =
+    both (inRange (configOf r)) (both (eqb (length ws) (4 * r .capacity)) (within 1 (r .capacity) (r .rows)))
+
+-- Each owner's figure is within its quota.
+abbrev pub keepsAll : List ℕ → List ℕ → Bool
+keepsAll figures quotas = every (λ (o : ℕ). leb (getD figures (o - 1) 0) (quota quotas o)) owners
+
+-- The conditions that are left when the rows in use are a map, told by the figures counted in them.
+abbrev pub agreesWith : Heap → List ℕ → Census → Bool
+agreesWith r ws k =
+    both (every (eqb 0) (drop (4 * r .rows) ws))
+    (both (eqb (r .used) (k .used))
+    (both (within (r .used) (r .granules) (r .peak))
+    (both (keepsAll (k .blocks) (r .«block_quotas»)) (keepsAll (k .held) (r .«granule_quotas»)))))
+
+-- What a check of a record and a table tells: whether they are valid and, if so, the figures of the live blocks.
+pub record Examined (r : Heap) (ws : List ℕ) (k : Census) : Type 0 where
+  pub ok : k .ok ≡ valid r ws
+  pub counted : k .ok ≡ true → Counted (configOf r) (r .rows) ws k
+
+-- The reason in a verdict.
+abbrev pub reasonIn : Verdict → Option Refusal
+reasonIn verdict.Granted = none
+reasonIn (verdict.Refused why) = some why
+
+-- A place for a block: neither 7 nor 8 applies, the start is the lowest, and the row has room from there on.
+pub record Lowest (r : Heap) (ws : List ℕ) (o n a row start : ℕ) : Type 0 where
+  pub lowest : lowestStart (configOf r) (blocksIn (r .rows) ws) (needed (configOf r) n) a ≡ some start
+  pub room : Room (r .rows) (needed (configOf r) n) ws row start
+
+-- What is decided of an allocation by an order: why it is refused, or its place.
+abbrev pub Decided : Order Refusal → Heap → List ℕ → ℕ → ℕ → ℕ → Place → Type 0
+Decided order r ws o n a (place.Refused why) = firstReason order ≡ some why
+Decided order r ws o n a (place.At row start) = (firstReason order ≡ none) × Lowest r ws o n a row start
+
+-- A segment is a live block whose first byte is x.
+abbrev pub startsAt : Segment → ℕ → Bool
+startsAt s x = both (isLive s) (eqb (offset s) x)
+
+-- A row in use has the block at x.
+pub record BlockRow (r : Heap) (ws : List ℕ) (x row : ℕ) : Type 0 where
+  pub inUse : row < r .rows
+  pub block : blockAt x (blocksIn (r .rows) ws) ≡ some (segmentAt ws row)
+
+-- What is decided of a call on the block at x by an order: why it is refused, or the block's row.
+abbrev pub LookedUp : Order Refusal → Heap → List ℕ → ℕ → Lookup → Type 0
+LookedUp order r ws x (lookup.Refused why) = firstReason order ≡ some why
+LookedUp order r ws x (lookup.Row row) = (firstReason order ≡ none) × BlockRow r ws x row
+
+-- The record with other rows in use and other granules used: the peak is raised to those if they are more.
+abbrev pub updatedOf : Heap → ℕ → ℕ → Heap
+updatedOf r rows used =
+    record {
+      capacity = r .capacity;
+      rows = rows;
+      granules = r .granules;
+      used = used;
+      peak = max (r .peak) used;
+      «granule_quotas» = r .«granule_quotas»;
+      «block_quotas» = r .«block_quotas»;
+    }
