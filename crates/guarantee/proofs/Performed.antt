@@ -30,8 +30,8 @@ promised s (holding o) r t d = (d .0 .answer, d .1)
 performed : (s : Stored) (es : List Entry) (t : Stored) → Performed s es t → (es ≡ history execute s (callsOf es)) × (t ≡ after execute s (callsOf es))
 performed s [] t d = (refl, d)
 performed s (e ∷ es) t d =
-    let one : (e .1 ≡ execute s (e .0) .0) × (d .0 ≡ execute s (e .0) .1) = promised s (e .0) (e .1) (d .0) (d .1 .0) in
-    let more : (es ≡ history execute (d .0) (callsOf es)) × (t ≡ after execute (d .0) (callsOf es)) = performed (d .0) es t (d .1 .1) in
+    let one : (e .1 ≡ execute s (e .0) .0) × (d .0 ≡ execute s (e .0) .1) = promised s (e .0) (e .1) (d .0) (d .1) in
+    let more : (es ≡ history execute (d .0) (callsOf es)) × (t ≡ after execute (d .0) (callsOf es)) = performed (d .0) es t (d .2) in
     let answers : es ≡ history execute (execute s (e .0) .1) (callsOf es) = more .0 ∙ ap (λ (u : Stored). history execute u (callsOf es)) (one .1) in
     ((λ i. (e .0, one .0 i) ∷ answers i), more .1 ∙ ap (λ (u : Stored). after execute u (callsOf es)) (one .1))
 
