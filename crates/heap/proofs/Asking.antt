@@ -13,7 +13,7 @@ use Rattle.model.specs.Choose.{choose}
 use Rattle.model.specs.Quantities.{isOwner}
 use Rattle.model.specs.Allocation.{granulesFor, granulesOf, ownedBy}
 use Rattle.model.specs.Orders.{firstReason, quotaOrder, totalsOrder, holdingOrder}
-use Rattle.model.proofs.Ranges.{within-least, within-most, few-granules, quota-at}
+use Rattle.model.proofs.Ranges.{within-least, within-most, quota-at}
 use Rattle.segments.specs.Rows.{segmentsIn, blocksIn}
 use Rattle.segments.specs.Counting.{Bounded, Counted}
 use Rattle.segments.proofs.TilesMap.{map-charged}
@@ -22,6 +22,7 @@ use Rattle.heap.specs.Valid.{valid}
 use Rattle.heap.specs.Steps.{Examined}
 use Rattle.heap.specs.Promises.{TotalsDone, HoldingDone}
 use Rattle.heap.proofs.Conditions.{Conditions, valid-conditions}
+use Rattle.heap.proofs.Changing.{Bounds, bounds}
 use Rattle.model.specs.declared.Refusal.the-variants as refusal
 use Rattle.model.specs.declared.Totals.the-variants as totals
 use Rattle.model.specs.declared.Holding.the-variants as holding
@@ -76,19 +77,18 @@ module _ (r : Heap) (ws : List ℕ) (k : Census) (e : Examined r ws k) where
     pub small : Small r k
     small =
         let b : Bounded (r .granules) k = counted .bounded in
-        record {
-          used = conditions .peakLeast;
-          peak = conditions .peakMost;
-          granules = few-granules (configOf r) (conditions .range);
-          longest = omega arith;
-          held = λ i. omega (arith, b .held i);
-        }
+        let t : Bounds r ws examined-valid = bounds r ws examined-valid in
+        record { used = t .used; peak = t .peak; granules = t .granules; longest = omega arith; held = λ i. omega (arith, b .held i) }
 
     -- The totals are the record's figures and the longest free run counted.
-    pub totals-told : TotalsDone r ws (totals.Bytes (16 * r .used) (16 * (r .granules - r .used)) (16 * r .peak) (16 * k .longest))
+    pub totals-told : (used free peak longest : ℕ) → used ≡ 16 * r .used → free ≡ 16 * (r .granules - r .used) → peak ≡ 16 * r .peak → longest ≡ 16 * k .longest
+        → TotalsDone r ws (totals.Bytes used free peak longest)
     unfolding totalsOrder
-    totals-told =
-        record { answer = rw (examined-valid, conditions .used, counted .longest good); numbered = rw (examined-valid, conditions .used, counted .longest good) }
+    totals-told used free peak longest u f p l =
+        record {
+          answer = rw (u, f, p, l, examined-valid, conditions .used, counted .longest good);
+          numbered = rw (u, f, p, l, examined-valid, conditions .used, counted .longest good);
+        }
 
     -- A number that is no owner's gets 2.
     pub holding-refused : (o : ℕ) → isOwner o ≡ false → HoldingDone r ws o (holding.Refused refusal.BadOwner)
@@ -103,10 +103,10 @@ module _ (r : Heap) (ws : List ℕ) (k : Census) (e : Examined r ws k) where
       granules-counted = counted .held good o (owner-least o w) (owner-most o w)
 
       -- What an owner holds is its figures.
-      pub holding-told : HoldingDone r ws o (holding.Of (getD (k .blocks) (o - 1) 0) (16 * getD (k .held) (o - 1) 0))
+      pub holding-told : (blocks bytes : ℕ) → blocks ≡ getD (k .blocks) (o - 1) 0 → bytes ≡ 16 * getD (k .held) (o - 1) 0 → HoldingDone r ws o (holding.Of blocks bytes)
       unfolding holdingOrder
-      holding-told =
-          record { answer = rw (examined-valid, w, blocks-counted, granules-counted); numbered = rw (examined-valid, w, blocks-counted, granules-counted) }
+      holding-told blocks bytes b h =
+          record { answer = rw (b, h, examined-valid, w, blocks-counted, granules-counted); numbered = rw (b, h, examined-valid, w, blocks-counted, granules-counted) }
 
       module _ (n : ℕ) where
         -- 5 and 6 of a request by an owner are told by its quotas and its figures.

@@ -97,11 +97,12 @@ module _ (r : Heap) (ws : List ℕ) (o x : ℕ) where
     pub size-not : (why : Refusal) → l ≡ lookup.Refused why → BlockSizeDone r ws o x (size.Refused why)
     size-not why q = size-refused why (subst (LookedUp sizeOrder r ws x) q sized)
 
-    pub size-row : (i : ℕ) → l ≡ lookup.Row i → (s : Segment) → s ≡ segmentAt ws i → BlockSizeDone r ws o x (size.Bytes (s .requested) (bytes s))
-    size-row i q s e =
+    pub size-row : (i : ℕ) → l ≡ lookup.Row i → (s : Segment) → s ≡ segmentAt ws i → (requested held : ℕ) → requested ≡ s .requested → held ≡ bytes s
+        → BlockSizeDone r ws o x (size.Bytes requested held)
+    size-row i q s e requested held p h =
         let d : LookedUp sizeOrder r ws x (lookup.Row i) = subst (LookedUp sizeOrder r ws x) q sized in
         let b : blockAt x blocks ≡ some s = d .1 .block ∙ ap some (sym e) in
-        record { answer = rw (d .0, b); numbered = rw (d .0, b) }
+        record { answer = rw (p, h, d .0, b); numbered = rw (p, h, d .0, b) }
 
   -- A free, of what was found.
   module _ (arena : List ℕ) where
@@ -159,15 +160,16 @@ module _ (r : Heap) (ws : List ℕ) (o x : ℕ) where
               ∙ sym (valid-conditions r ws (good .valid) .used)
 
           pub free-row : (m : ℕ) (after : List ℕ) → Rewritten (r .rows) ws (released i (segmentsIn (r .rows) ws)) m after
-              → (h : Heap) → h ≡ updatedOf r m (r .used - s .length) → (cleared : List ℕ) → cleared ≡ zeroed x (bytes s) arena
-              → FreeDone r ws arena o x (record { freed = freed.Bytes (bytes s); heap = h }) after cleared
-          free-row m after w h u cleared z =
-              let k : handed (updatedOf r m (r .used - s .length)) after ≡ store (configOf r) (releasing (stateIn r ws) x) =
-              stored-changed r ws (good .valid) (without x blocks) (released i (segmentsIn (r .rows) ws)) m (r .used - s .length) after rows few (omega (arith, free-left)) w in
+              → (h : Heap) (used : ℕ) → h ≡ updatedOf r m used → used + s .length ≡ r .used
+              → (k : ℕ) → k ≡ bytes s → (cleared : List ℕ) → cleared ≡ zeroed x k arena
+              → FreeDone r ws arena o x (record { freed = freed.Bytes k; heap = h }) after cleared
+          free-row m after w h used u n k b cleared z =
+              let t : handed (updatedOf r m used) after ≡ store (configOf r) (releasing (stateIn r ws) x) =
+              stored-changed r ws (good .valid) (without x blocks) (released i (segmentsIn (r .rows) ws)) m used after rows few (omega (arith, free-left)) w in
               record {
-                answer = rw (found .0, freed-block);
-                numbered = rw (found .0, freed-block);
-                heap = rw (found .0) (u ∙ ap (λ (t : Stored). t .heap) k);
-                table = rw (found .0) (ap (λ (t : Stored). t .words) k);
-                arena = rw (found .0, freed-block) z;
+                answer = rw (found .0, freed-block, b);
+                numbered = rw (found .0, freed-block, b);
+                heap = rw (found .0) (u ∙ ap (λ (t : Stored). t .heap) t);
+                table = rw (found .0) (ap (λ (t : Stored). t .words) t);
+                arena = rw (found .0, freed-block) (z ∙ ap (λ (k : ℕ). zeroed x k arena) b);
               }

@@ -185,20 +185,21 @@ module _ (r : Heap) (ws : List ℕ) (o n a : ℕ) where
       pub rows-fit : m ≤ 4294967295
       rows-fit = omega (arith, w .rows, ap length map-is, rows-few, bounded .capacity)
 
-      left : handed (updatedOf r m (r .used + b .length)) after ≡ afterAllocAligned (handed r ws) o n a
-      left =
-          stored-changed r ws checked (insert b (blocksIn (r .rows) ws)) _ m (r .used + b .length) after map-is rows-few
+      left : (used : ℕ) → used ≡ r .used + b .length → handed (updatedOf r m used) after ≡ afterAllocAligned (handed r ws) o n a
+      left used u =
+          stored-changed r ws checked (insert b (blocksIn (r .rows) ws)) _ m used after map-is rows-few
           (omega (arith, valid-conditions r ws checked .used, total-insert (λ (x : Segment). x .length) b (blocksIn (r .rows) ws))) w
           ∙ ap (λ (x : Segment). store (configOf r) (changed (stateIn r ws) (insert x (blocksIn (r .rows) ws)))) (is (configOf r))
           ∙ rw (d .0, fit-at (configOf r) (stateIn r ws) o n a s (d .1 .lowest))
 
-      -- It leaves the record and the table of the state with its block.
-      pub alloc-done : (out : Heap) → out ≡ updatedOf r m (r .used + b .length) → AllocDone r ws o n a (record { placed = placed.At (16 * s); heap = out }) after
-      alloc-done out e =
+      -- It answers its offset, and leaves the record and the table of the state with its block.
+      pub alloc-done : (out : Heap) (used : ℕ) → out ≡ updatedOf r m used → used ≡ r .used + b .length → (x : ℕ) → x ≡ 16 * s
+          → AllocDone r ws o n a (record { placed = placed.At x; heap = out }) after
+      alloc-done out used e u x is-offset =
           let f : fit (configOf r) (blocksIn (r .rows) ws) o n a ≡ some (block (configOf r) o n s) = fit-at (configOf r) (stateIn r ws) o n a s (d .1 .lowest) in
           record {
-            answer = rw (d .0, f);
-            numbered = rw (d .0, f);
-            heap = e ∙ ap (λ (w : Stored). w .heap) left;
-            table = ap (λ (w : Stored). w .words) left;
+            answer = rw (d .0, f, is-offset);
+            numbered = rw (d .0, f, is-offset);
+            heap = e ∙ ap (λ (w : Stored). w .heap) (left used u);
+            table = ap (λ (w : Stored). w .words) (left used u);
           }

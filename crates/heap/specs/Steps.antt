@@ -3,7 +3,7 @@
 use Prim.Native.Nat.{ℕ, _-_, _*_, _<_, max}
 use mathlib.Core.Path.{_≡_}
 use mathlib.Core.Bool.{Bool, true}
-use mathlib.Core.List.{List, _++_}
+use mathlib.Core.List.{List}
 use mathlib.Core.Option.{Option, none, some}
 use lib.Dec.{leb, eqb}
 use lib.ListN.{length, getD, drop}
@@ -11,11 +11,11 @@ use Rattle.model.specs.Choose.{both, every}
 use Rattle.model.specs.Quantities.{within, owners, inRange, quota}
 use Rattle.model.specs.Allocation.{needed, lowestStart, blockAt, offset}
 use Rattle.model.specs.SegmentMap.{isLive}
-use Rattle.model.specs.Orders.{Order, firstReason, allocOrder, properOrder, quotaOrder, placeOrder}
+use Rattle.model.specs.Orders.{Order, firstReason}
 use Rattle.segments.specs.Rows.{segmentAt, blocksIn}
 use Rattle.segments.specs.Search.{Room}
 use Rattle.segments.specs.Counting.{Counted}
-use Rattle.heap.specs.Stored.{configOf, stateIn}
+use Rattle.heap.specs.Stored.{configOf}
 use Rattle.heap.specs.Valid.{valid}
 use Rattle.model.specs.declared.Segment.{Segment}
 use Rattle.model.specs.declared.Refusal.{Refusal}
@@ -55,7 +55,7 @@ abbrev pub reasonIn : Verdict → Option Refusal
 reasonIn verdict.Granted = none
 reasonIn (verdict.Refused why) = some why
 
--- A place for a block: neither 7 nor 8 applies, the start is the lowest, and the row has room from there on.
+-- A place for a block: the start is the lowest, and the row is free and has room from there on.
 pub record Lowest (r : Heap) (ws : List ℕ) (o n a row start : ℕ) : Type 0 where
   pub lowest : lowestStart (configOf r) (blocksIn (r .rows) ws) (needed (configOf r) n) a ≡ some start
   pub room : Room (r .rows) (needed (configOf r) n) ws row start

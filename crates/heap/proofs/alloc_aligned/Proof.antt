@@ -55,7 +55,8 @@ same-length-2 c = search needs
 returns-2 : tie.Need-returns-2
 returns-2 c =
     let a = c .before .before .before .before .before .before .before .before .before .before .before .before .before .before .before .args in
-    alloc-done (a .heap) (a .table .now) (a .owner) (a .size) (a .align) (c .before .before .before .before .before .before .before .before .before .before .before .before .find-place .result) (c .before .before .before .before .before .before .before .before .before .before .before .before .find-place .ensures) _ _ (c .before .before .before .before .before .before .before .before .before .before .place2 .given .1) _ (c .before .before .before .before .before .before .before .before .block-at .ensures) _ _ (c .before .before .before .before .before .split-row .ensures) _ (c .updated .ensures)
+    alloc-done (a .heap) (a .table .now) (a .owner) (a .size) (a .align) (c .before .before .before .before .before .before .before .before .before .before .before .before .find-place .result) (c .before .before .before .before .before .before .before .before .before .before .before .before .find-place .ensures) _ _ (c .before .before .before .before .before .before .before .before .before .before .place2 .given .1) _ (c .before .before .before .before .before .before .before .before .block-at .ensures) _ _ (c .before .before .before .before .before .split-row .ensures)
+    _ _ (c .updated .ensures) (omega arith) _ (omega arith)
 
 pub alloc-aligned-spec : {M : Type 1} → statement M
 alloc-aligned-spec =

@@ -44,6 +44,7 @@ returns-3 : tie.Need-returns-3
 returns-3 c =
     let t = c .before .before .before in
     size-row _ _ _ _ (sym (t .before .before .before .before .is-valid .ensures) ∙ not-false _ (t .before .before .before .if1 .left)) _ (t .before .before .find-row .ensures) _ (t .found2 .given .1) _ (c .before .row .ensures)
+    _ _ (omega arith) (omega arith)
 
 pub block-size-spec : {M : Type 1} → statement M
 block-size-spec =

@@ -54,7 +54,7 @@ mul-t19 c =
 returns-3 : tie.Need-returns-3
 returns-3 c =
     let d = c .before .before .before .before in
-    holding-told _ _ _ (d .before .examine .ensures) (not-false _ (d .if1 .left)) _ (owner (c .before .before))
+    holding-told _ _ _ (d .before .examine .ensures) (not-false _ (d .if1 .left)) _ (owner (c .before .before)) _ _ (omega arith) (omega arith)
 
 pub holding-spec : {M : Type 1} → statement M
 holding-spec =

@@ -33,7 +33,8 @@ mul-t10 c = let b = bounds (c .before .before .before .before) in omega arith
 
 returns-2 : tie.Need-returns-2
 returns-2 c =
-    let d = c .before .before .before .before in totals-told _ _ _ (d .before .before .examine .ensures) (not-false _ (d .if1 .left))
+    let d = c .before .before .before .before in totals-told _ _ _ (d .before .before .examine .ensures) (not-false _ (d .if1 .left)) _ _ _ _
+    (omega arith) (omega arith) (omega arith) (omega arith)
 
 pub totals-spec : {M : Type 1} → statement M
 totals-spec =
