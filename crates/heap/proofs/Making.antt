@@ -4,13 +4,12 @@ use mathlib.Core.Path.{_≡_, sym, ap, _∙_}
 use mathlib.Core.Bool.{true, false}
 use mathlib.Core.List.{List, [], _∷_, _++_, append-nil}
 use mathlib.Core.Option.{none, some}
-use Prim.Native.Nat.{ℕ, _*_, _/_, _%_, _-_, _+_, _≤_, _<_}
+use Prim.Native.Nat.{ℕ, _*_, _/_, _-_, _+_, _≤_}
 use native.Mathlib.Omega.{arith}
-use lib.Dec.{eqb}
 use lib.ListN.{length, replicate, length-replicate, drop-of-length-le}
-use borrow.Author.Tests.{not-false, lt-ltb, le-leb, lt-leb}
-use Rattle.model.specs.Choose.{both, given}
-use Rattle.model.specs.Quantities.{within, isArena, isTable, quotasInRange, Config, inRange}
+use borrow.Author.Tests.{not-false, lt-ltb}
+use Rattle.model.specs.Choose.{given}
+use Rattle.model.specs.Quantities.{isArena, isTable, quotasInRange, Config, inRange}
 use Rattle.model.specs.Allocation.{fresh}
 use Rattle.model.specs.Arena.{zeroed}
 use Rattle.model.specs.SegmentMap.{freeRun, rowsOf}
@@ -32,17 +31,6 @@ use Rattle.heap.proofs.Conditions.{Conditions, valid-conditions}
 use Rattle.model.specs.declared.Plan.{Plan}
 use Rattle.model.specs.declared.InitRefusal.{InitRefusal}
 use Rattle.model.specs.declared.Made.the-variants as made
-
--- A length in a range and in steps: too short, too long, and in the range, where the step decides.
-module _ (least most step n : ℕ) where
-  pub too-short : n < least → false ≡ both (within least most n) (eqb (n % step) 0)
-  too-short h = rw (lt-leb least n h)
-
-  pub too-long : least ≤ n → most < n → false ≡ both (within least most n) (eqb (n % step) 0)
-  too-long l h = rw (le-leb least n l, lt-leb n most h)
-
-  pub step-decides : least ≤ n → n ≤ most → eqb (n % step) 0 ≡ both (within least most n) (eqb (n % step) 0)
-  step-decides l h = rw (le-leb least n l, le-leb n most h)
 
 not-done : (r : InitRefusal) → made.Refused r ≡ made.Done → ⊥
 not-done r e = let z : _≡_ {A = ℕ} 0 1 = cc in omega arith

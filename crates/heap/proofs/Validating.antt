@@ -9,10 +9,10 @@ use lib.Dec.{leb, eqb}
 use lib.ListN.{length, getD, drop}
 use borrow.Author.Tests.{eqb-true, eq-eqb, le-leb, lt-leb, leb-true}
 use Rattle.model.specs.Choose.{every, total}
-use Rattle.model.specs.Quantities.{within, owners, quota, areQuotas, quotasInRange, Config, inRange}
+use Rattle.model.specs.Quantities.{within, owners, quota, areQuotas, Config, inRange}
 use Rattle.model.specs.Allocation.{charge, granulesOf, ownedBy}
 use Rattle.model.proofs.Choosing.{split, tests, same-test, parts, clash, both-left, both-right, both-true}
-use Rattle.model.proofs.Ranges.{within-least, within-most, bounds-within, some-granules, some-rows, few-granules, few-rows, each-owner, all-owners, quota-at}
+use Rattle.model.proofs.Ranges.{within-least, within-most, bounds-within, each-owner, all-owners, quota-at}
 use Rattle.segments.specs.Rows.{segmentsIn, blocksIn}
 use Rattle.segments.specs.Tiling.{isMap}
 use Rattle.segments.specs.Counting.{Counted}
@@ -47,43 +47,6 @@ quotas-all most qs n e = sym (both-true _ _ (eq-eqb (length qs) 8 n) e)
 
 pub quotas-not : (most : ℕ) (qs : List ℕ) → every (within 0 most) qs ≡ false → false ≡ areQuotas most qs
 quotas-not most qs e = split (areQuotas most qs) (λ q. absurd (clash _ (both-right (eqb (length qs) 8) (every (within 0 most) qs) q) e)) (λ q. sym q)
-
--- The ranges, of numbers.
-pub record Ranges (c : Config) : Type 0 where
-  pub quotas : quotasInRange (c .granuleQuotas) (c .blockQuotas) ≡ true
-  pub granulesLeast : 1 ≤ c .granules
-  pub granulesMost : c .granules ≤ 65536
-  pub capacityLeast : 1 ≤ c .capacity
-  pub capacityMost : c .capacity ≤ 512
-
-module _ (c : Config) where
-  range-parts : inRange c ≡ true → Ranges c
-  range-parts e =
-      record {
-        quotas = both-left (quotasInRange (c .granuleQuotas) (c .blockQuotas)) _ e;
-        granulesLeast = some-granules c e;
-        granulesMost = few-granules c e;
-        capacityLeast = some-rows c e;
-        capacityMost = few-rows c e;
-      }
-
-  parts-range : Ranges c → inRange c ≡ true
-  parts-range k =
-      both-true _ _ (k .quotas)
-      (both-true _ _
-      (both-true _ _ (bounds-within 16 1048576 (16 * c .granules) (omega arith) (omega arith)) (eq-eqb ((16 * c .granules) % 16) 0 (omega arith)))
-      (both-true _ _ (bounds-within 4 2048 (4 * c .capacity) (omega arith) (omega arith)) (eq-eqb ((4 * c .capacity) % 4) 0 (omega arith))))
-
-  pub out-of-range : (Ranges c → ⊥) → false ≡ inRange c
-  out-of-range f = split (inRange c) (λ q. absurd (f (range-parts q))) (λ q. sym q)
-
-  -- The last of the ranges decides, if the others hold.
-  pub range-last : quotasInRange (c .granuleQuotas) (c .blockQuotas) ≡ true → 1 ≤ c .granules → c .granules ≤ 65536 → 1 ≤ c .capacity
-      → leb (c .capacity) 512 ≡ inRange c
-  range-last q l m k =
-      same-test (leb (c .capacity) 512) (inRange c)
-      (λ t. parts-range (record { quotas = q; granulesLeast = l; granulesMost = m; capacityLeast = k; capacityMost = leb-true (c .capacity) 512 t }))
-      (λ t. le-leb (c .capacity) 512 (few-rows c t))
 
 -- Without a look at a row.
 module _ (r : Heap) (ws : List ℕ) where
