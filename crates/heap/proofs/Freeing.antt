@@ -7,12 +7,12 @@ use mathlib.Core.Option.{none, some}
 use Prim.Native.Nat.{ℕ, _+_, _*_, _-_, _/_, _≤_, _<_}
 use native.Mathlib.Omega.{arith}
 use lib.Dec.{eqb}
-use lib.ListN.{length}
+use lib.ListN.{length, replicate}
 use borrow.Author.Tests.{eqb-true, eq-eqb, ne-eqb}
 use Rattle.model.specs.Choose.{choose}
 use Rattle.model.specs.Quantities.{isOwner}
 use Rattle.model.specs.Allocation.{granulesOf, offset, bytes, blockAt, without}
-use Rattle.model.specs.Arena.{zeroed}
+use Rattle.model.specs.Arena.{written}
 use Rattle.model.specs.SegmentMap.{isLive, mapOf, rowsOf}
 use Rattle.model.specs.Orders.{Order, firstReason, freeOrder, blockSizeOrder, blockOrder}
 use Rattle.model.specs.Rules.{releasing}
@@ -161,9 +161,9 @@ module _ (r : Heap) (ws : List ℕ) (o x : ℕ) where
 
           pub free-row : (m : ℕ) (after : List ℕ) → Rewritten (r .rows) ws (released i (segmentsIn (r .rows) ws)) m after
               → (h : Heap) (used : ℕ) → h ≡ updatedOf r m used → used + s .length ≡ r .used
-              → (k : ℕ) → k ≡ bytes s → (cleared : List ℕ) → cleared ≡ zeroed x k arena
+              → (k : ℕ) → k ≡ bytes s → (cleared : List ℕ) (v : ℕ) → cleared ≡ written x (replicate k v) arena → v ≡ 0
               → FreeDone r ws arena o x (record { freed = freed.Bytes k; heap = h }) after cleared
-          free-row m after w h used u n k b cleared z =
+          free-row m after w h used u n k b cleared v a z =
               let t : handed (updatedOf r m used) after ≡ store (configOf r) (releasing (stateIn r ws) x) =
               stored-changed r ws (good .valid) (without x blocks) (released i (segmentsIn (r .rows) ws)) m used after rows few (omega (arith, free-left)) w in
               record {
@@ -171,5 +171,5 @@ module _ (r : Heap) (ws : List ℕ) (o x : ℕ) where
                 numbered = rw (found .0, freed-block, b);
                 heap = rw (found .0) (u ∙ ap (λ (t : Stored). t .heap) t);
                 table = rw (found .0) (ap (λ (t : Stored). t .words) t);
-                arena = rw (found .0, freed-block) (z ∙ ap (λ (k : ℕ). zeroed x k arena) b);
+                arena = rw (found .0, freed-block) (a ∙ (λ j. written x (replicate (b j) (z j)) arena));
               }

@@ -11,7 +11,7 @@ use borrow.Author.Tests.{not-false, lt-ltb}
 use Rattle.model.specs.Choose.{given}
 use Rattle.model.specs.Quantities.{isArena, isTable, quotasInRange, Config, inRange}
 use Rattle.model.specs.Allocation.{fresh}
-use Rattle.model.specs.Arena.{zeroed}
+use Rattle.model.specs.Arena.{written, zeroed}
 use Rattle.model.specs.SegmentMap.{freeRun, rowsOf}
 use Rattle.model.specs.Numbers.{madeNumbered}
 use Rattle.segments.specs.Rows.{wordsOf}
@@ -104,17 +104,17 @@ module _ (arena words : List ℕ) (p : Plan) (done : init arena words p ≡ made
       let z : length words - 4 ≡ 4 * (length words / 4 - 1) = omega (arith, rows-whole arena words p done) in
       rw z (sym (fresh-table (initConfig arena words p) (init-range arena words p done)))
 
-  pub done-leaves : (bytes table : List ℕ) → bytes ≡ zeroed 0 (length arena) arena → table ≡ wordsOf (freeRun 0 (length arena / 16) ∷ []) ++ replicate (length words - 4) 0
+  pub done-leaves : (bytes table : List ℕ) (v : ℕ) → bytes ≡ written 0 (replicate (length arena) v) arena → v ≡ 0 → table ≡ wordsOf (freeRun 0 (length arena / 16) ∷ []) ++ replicate (length words - 4) 0
       → InitDone arena words p (record {
         made = made.Done;
         heap = record { capacity = length words / 4; rows = 1; granules = length arena / 16; used = 0; peak = 0; «granule_quotas» = p .«granule_quotas»; «block_quotas» = p .«block_quotas» };
       }) bytes table
-  done-leaves bytes table b t =
+  done-leaves bytes table v b z t =
       let q : firstReason (initOrder arena words p) ≡ none = none-applies arena words p done in
       record {
         answer = sym done;
         numbered = rw q;
         heap = rw (q, fresh-rows (initConfig arena words p) (init-range arena words p done));
         table = rw q (t ∙ reset-table);
-        arena = rw q (b ∙ zeroed-whole arena);
+        arena = rw q (b ∙ ap (λ (v : ℕ). written 0 (replicate (length arena) v) arena) z ∙ zeroed-whole arena);
       }

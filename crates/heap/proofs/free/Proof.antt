@@ -80,7 +80,7 @@ returns-2 c =
     let w = c .before .before .before .before .before .before .before .before .before .before .before .before .before in
     let t = w .before .before .before in
     free-row _ _ _ _ _ _ (t .before .before .find-freed .ensures) _ (t .found2 .given .1) _ (w .row .ensures) _ _ (c .before .before .before .before .before .release-row .ensures)
-    _ _ (c .updated .ensures) (omega (arith, free-left _ _ _ _ _ _ (t .before .before .find-freed .ensures) _ (t .found2 .given .1) _ (w .row .ensures))) _ (omega arith) _ (c .before .before .before .before .before .before .before .before .before .before .fill .ensures)
+    _ _ (c .updated .ensures) (omega (arith, free-left _ _ _ _ _ _ (t .before .before .find-freed .ensures) _ (t .found2 .given .1) _ (w .row .ensures))) _ (omega arith) _ _ (c .before .before .before .before .before .before .before .before .before .before .fill .ensures) (omega arith)
 
 pub free-spec : {M : Type 1} → statement M
 free-spec =

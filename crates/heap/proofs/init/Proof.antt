@@ -90,7 +90,7 @@ same-length-2 c = search needs
 returns-4 : tie.Need-returns-4
 returns-4 c =
     let d = c .before .before .before .before .before .before .before .before in
-    done-leaves _ _ _ (done d) _ _ (c .before .before .before .before .before .before .fill .ensures) (c .before .before .reset .ensures)
+    done-leaves _ _ _ (done d) _ _ _ (c .before .before .before .before .before .before .fill .ensures) (omega arith) (c .before .before .reset .ensures)
 
 pub init-spec : {M : Type 1} → statement M
 init-spec =
