@@ -2,6 +2,7 @@
 -- Assumes nothing.
 use mathlib.Core.Path.{sym, _∙_}
 use Prim.Native.Nat.{_*_}
+use native.Mathlib.Omega.{arith}
 use lib.ListN.{length}
 use borrow.Author.Needs.{needs}
 use borrow.Author.Tests.{not-true, not-false, ne-eqb}
@@ -27,14 +28,14 @@ returns-2 : tie.Need-returns-2
 unfolding freeOrder
 returns-2 c =
     let a = c .before .before .before .before .before .before .args in
-    rw (sym (c .before .before .before .is-valid .ensures) ∙ not-false _ (c .before .before .if1 .left), ne-eqb (length (a .arena .now)) (16 * a .heap .granules) (c .if2 .taken))
+    rw (sym (c .before .before .before .is-valid .ensures) ∙ not-false _ (c .before .before .if1 .left), ne-eqb (length (a .arena .now)) (16 * a .heap .granules) (λ z. omega arith))
 
 find-row-requires : tie.Need-find-row-requires
 find-row-requires c κs = sym (c .before .before .before .is-valid .ensures) ∙ not-false _ (c .before .before .if1 .left)
 
 returns-3 : tie.Need-returns-3
 returns-3 c =
-    free-decided _ _ _ _ _ (sym (c .before .before .before .before .is-valid .ensures) ∙ not-false _ (c .before .before .before .if1 .left)) (c .before .if2 .left) (c .find-row .result) (c .find-row .ensures)
+    free-decided _ _ _ _ _ (sym (c .before .before .before .before .is-valid .ensures) ∙ not-false _ (c .before .before .before .if1 .left)) (omega arith) (c .find-row .result) (c .find-row .ensures)
 
 pub find-freed-spec : {M : Type 1} → statement M
 find-freed-spec =

@@ -39,15 +39,15 @@ returns-3 : tie.Need-returns-3
 returns-3 c =
     let w = c .before .before .before .before in
     let p = w .before .before .before .before .before .before in
-    other-block _ _ _ _ (p .pre) (sym (w .before .before .before .before .is-owner .ensures) ∙ not-false _ (w .before .before .before .if1 .left)) _ (w .before .row-of .ensures) _ (w .row .ensures)
-    (sym (c .before .before .before .starts-at .ensures) ∙ not-false _ (c .before .before .if2 .left)) (c .if3 .taken)
+    other-block _ _ (p .args .owner) _ (p .pre) (sym (w .before .before .before .before .is-owner .ensures) ∙ not-false _ (w .before .before .before .if1 .left)) _ (w .before .row-of .ensures) _ (w .row .ensures)
+    (sym (c .before .before .before .starts-at .ensures) ∙ not-false _ (c .before .before .if2 .left)) (λ z. omega arith)
 
 returns-4 : tie.Need-returns-4
 returns-4 c =
     let w = c .before .before .before .before in
     let p = w .before .before .before .before .before .before in
-    own-block _ _ _ _ (p .pre) (sym (w .before .before .before .before .is-owner .ensures) ∙ not-false _ (w .before .before .before .if1 .left)) _ (w .before .row-of .ensures) _ (w .row .ensures)
-    (sym (c .before .before .before .starts-at .ensures) ∙ not-false _ (c .before .before .if2 .left)) (c .if3 .left)
+    own-block _ _ (p .args .owner) _ (p .pre) (sym (w .before .before .before .before .is-owner .ensures) ∙ not-false _ (w .before .before .before .if1 .left)) _ (w .before .row-of .ensures) _ (w .row .ensures)
+    (sym (c .before .before .before .starts-at .ensures) ∙ not-false _ (c .before .before .if2 .left)) (omega arith)
 
 pub find-row-spec : {M : Type 1} → statement M
 find-row-spec =

@@ -78,14 +78,14 @@ returns-2 c =
     let p = c .before .before .before .before .before .before .before .before .before .before .before .before in
     let a = p .args in
     table-full (a .heap) (a .table .now) (a .owner) (a .size) (a .align) (p .pre .0) (p .pre .1) _ (c .before .before .before .before .before .before .before .before .before .granules-for .ensures) _ (c .before .before .before .before .before .before .before .before .first-fit .ensures) _ _ (c .before .before .before .before .before .before .fit .given .1)
-    _ _ (c .before .before .before .before .row .ensures) (c .before .before .before .block-at .ensures (configOf (a .heap))) _ (c .before .pieces .ensures .0) (c .if1 .taken)
+    _ _ (c .before .before .before .before .row .ensures) (c .before .before .before .block-at .ensures (configOf (a .heap))) _ (c .before .pieces .ensures .0) (omega arith)
 
 returns-3 : tie.Need-returns-3
 returns-3 c =
     let p = c .before .before .before .before .before .before .before .before .before .before .before .before in
     let a = p .args in
     place-there (a .heap) (a .table .now) (a .owner) (a .size) (a .align) (p .pre .0) (p .pre .1) _ (c .before .before .before .before .before .before .before .before .before .granules-for .ensures) _ (c .before .before .before .before .before .before .before .before .first-fit .ensures) _ _ (c .before .before .before .before .before .before .fit .given .1)
-    _ _ (c .before .before .before .before .row .ensures) (c .before .before .before .block-at .ensures (configOf (a .heap))) _ (c .before .pieces .ensures .0) (c .if1 .left)
+    _ _ (c .before .before .before .before .row .ensures) (c .before .before .before .block-at .ensures (configOf (a .heap))) _ (c .before .pieces .ensures .0) (omega arith)
 
 pub seek-spec : {M : Type 1} → statement M
 seek-spec =
