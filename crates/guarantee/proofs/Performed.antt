@@ -8,7 +8,7 @@ use Rattle.model.specs.Rules.{initConfig}
 use Rattle.model.specs.Run.{after, history}
 use Rattle.heap.specs.Stored.{Stored, handed, store}
 use Rattle.heap.specs.Calls.{afterInit}
-use Rattle.heap.specs.Promises.{InitDone, AllocDone}
+use Rattle.heap.specs.Promises.{InitDone}
 use Rattle.guarantee.specs.Lists.{Call, alloc, alloc-aligned, free, block-size, totals, holding, Answer, byRules, execute}
 use Rattle.guarantee.specs.Guarantee.{Guaranteed, stateAfter}
 use Rattle.guarantee.specs.Performed.{Promised, Entry, Performed, callsOf}

@@ -9,7 +9,7 @@ use lib.ListN.{length}
 use Rattle.model.specs.Allocation.{granulesOf, changed}
 use Rattle.model.specs.SegmentMap.{mapOf, rowsOf}
 use Rattle.model.proofs.Ranges.{few-granules, few-rows}
-use Rattle.segments.specs.Rows.{segmentAt, segmentsIn, blocksIn, tableOf, Rewritten}
+use Rattle.segments.specs.Rows.{segmentAt, segmentsIn, tableOf, Rewritten}
 use Rattle.segments.proofs.Reading.{row-end}
 use Rattle.segments.proofs.Rewriting.{rewritten-table}
 use Rattle.segments.proofs.Parted.{map-granules}

@@ -9,10 +9,10 @@ use native.Mathlib.Omega.{arith}
 use lib.ListN.{length}
 use borrow.Author.Tests.{not-false, le-ltb, lt-ltb}
 use Rattle.model.specs.Quantities.{Config}
-use Rattle.model.specs.Allocation.{granulesFor, granulesOf, insert, block, fit, changed}
+use Rattle.model.specs.Allocation.{granulesFor, insert, block, fit, changed}
 use Rattle.model.specs.SegmentMap.{mapOf, rowsOf}
 use Rattle.model.specs.Orders.{Order, firstReason, allocOrder, properOrder, quotaOrder, placeOrder}
-use Rattle.model.proofs.Refusing.{NoReason, no-reason, first-then, first-stays}
+use Rattle.model.proofs.Refusing.{no-reason, first-then, first-stays}
 use Rattle.model.proofs.Ordered.{Live, total-insert}
 use Rattle.model.proofs.Allocated.{Proper, proper, fit-at, Allocated, allocated}
 use Rattle.segments.specs.Rows.{segmentAt, segmentsIn, blocksIn, Rewritten}

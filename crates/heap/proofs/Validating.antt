@@ -1,15 +1,15 @@
 -- What the steps of the test for a valid heap say of it.
 -- Assumes nothing.
-use mathlib.Core.Path.{_≡_, refl, sym, ap, _∙_}
+use mathlib.Core.Path.{_≡_, sym, ap, _∙_}
 use mathlib.Core.Bool.{true, false}
 use mathlib.Core.List.{List}
-use Prim.Native.Nat.{ℕ, _+_, _*_, _-_, _%_, _≤_, _<_}
+use Prim.Native.Nat.{ℕ, _+_, _*_, _-_, _≤_, _<_}
 use native.Mathlib.Omega.{arith}
 use lib.Dec.{leb, eqb}
 use lib.ListN.{length, getD, drop}
 use borrow.Author.Tests.{eqb-true, eq-eqb, le-leb, lt-leb, leb-true}
 use Rattle.model.specs.Choose.{every, total}
-use Rattle.model.specs.Quantities.{within, owners, quota, areQuotas, Config, inRange}
+use Rattle.model.specs.Quantities.{within, owners, quota, areQuotas, inRange}
 use Rattle.model.specs.Allocation.{charge, granulesOf, ownedBy}
 use Rattle.model.proofs.Choosing.{split, tests, same-test, parts, clash, both-left, both-right, both-true}
 use Rattle.model.proofs.Ranges.{within-least, within-most, bounds-within, each-owner, all-owners, quota-at}

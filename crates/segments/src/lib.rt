@@ -1,13 +1,13 @@
 // The table: rows in a lent slice of words. No function here keeps anything: the caller hands in how many rows are in use.
 ghost use mathlib.Core.Path.{_≡_};
 ghost use mathlib.Core.Bool.{true};
-ghost use mathlib.Core.List.{List, _∷_, [], _++_};
-ghost use Prim.Native.Nat.{ℕ, _+_, _-_, _*_, _%_, _<_, _≤_, max};
+ghost use mathlib.Core.List.{_∷_, [], _++_};
+ghost use Prim.Native.Nat.{_+_, _-_, _*_, _%_, _<_, _≤_, max};
 ghost use lib.Dec.{eqb};
 ghost use lib.ListN.{length, drop, replicate};
 ghost use Rattle.model.specs.Choose.{every};
 ghost use Rattle.model.specs.Quantities.{Config, isAlignment};
-ghost use Rattle.model.specs.Allocation.{granulesFor, granulesOf};
+ghost use Rattle.model.specs.Allocation.{granulesOf};
 ghost use Rattle.model.specs.Arena.{written};
 ghost use Rattle.model.specs.SegmentMap.{freeRun, gap};
 ghost use Rattle.segments.specs.Rows.{wordsOf, segmentAt, segmentsIn, withRow, withRows, Rewritten};

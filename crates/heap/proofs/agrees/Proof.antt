@@ -9,7 +9,6 @@ use lib.ListN.{drop}
 use borrow.Author.Needs.{needs}
 use borrow.Author.Tests.{not-true, not-false, eq-eqb, ne-eqb, le-leb, lt-leb}
 use Rattle.model.specs.Choose.{every}
-use Rattle.heap.specs.Steps.{keepsAll}
 use Rattle.heap.proofs.agrees.Statement.{statement}
 use Rattle.heap.proofs.agrees.Tie as tie
 

@@ -1,8 +1,6 @@
 -- `heap::starts_at` meets its contract.
 -- Assumes nothing.
-use Prim.Native.Nat.{_/_}
 use native.Mathlib.Omega.{arith}
-use lib.Dec.{eqb}
 use borrow.Author.Tests.{ne-eqb}
 use Rattle.model.specs.Allocation.{offset}
 use Rattle.model.proofs.Choosing.{same-test, tests}
@@ -21,7 +19,7 @@ returns-3 : tie.Need-returns-3
 returns-3 c =
     let a = c .before .before .before .before .args in
     rw (ne-eqb (a .s .owner) 0 (c .before .before .if1 .left))
-    (same-test (eqb (a .s .start) (a .offset / 16)) (eqb (offset (a .s)) (a .offset)) (λ q. omega tests) (λ q. omega tests))
+    (same-test _ _ (λ q. omega tests) (λ q. omega tests))
 
 pub starts-at-spec : {M : Type 1} → statement M
 starts-at-spec = tie.close (tie.spec returns returns-2 returns-3)
