@@ -2,20 +2,15 @@
 -- Assumes nothing.
 use mathlib.Core.Path.{_≡_, refl, sym, ap, _∙_}
 use mathlib.Core.List.{List, [], _∷_}
-use Prim.Native.Nat.{ℕ}
-use Rattle.model.specs.Allocation.{fresh}
+use Rattle.model.specs.Quantities.{Config}
 use Rattle.model.specs.Rules.{initConfig}
 use Rattle.model.specs.Run.{after, history}
-use Rattle.heap.specs.Stored.{Stored, handed, store}
-use Rattle.heap.specs.Calls.{afterInit}
-use Rattle.heap.specs.Promises.{InitDone}
-use Rattle.guarantee.specs.Lists.{Call, alloc, alloc-aligned, free, block-size, totals, holding, Answer, byRules, execute}
-use Rattle.guarantee.specs.Guarantee.{Guaranteed, stateAfter}
-use Rattle.guarantee.specs.Performed.{Promised, Entry, Performed, callsOf}
+use Rattle.heap.specs.Stored.{Stored, handed}
+use Rattle.heap.specs.Calls.{afterInit, allocAligned}
+use Rattle.guarantee.specs.Lists.{Call, alloc, alloc-aligned, free, block-size, totals, holding, Answer, execute}
+use Rattle.guarantee.specs.Guarantee.{stateAfter, storedAfter, Served, Guaranteed}
+use Rattle.guarantee.specs.Performed.{Promised, Entry, Performed, callsOf, Demand3Performed}
 use Rattle.guarantee.proofs.Guarantee.{guarantee}
-use Rattle.heap.specs.declared.Initialized.{Initialized}
-use Rattle.model.specs.declared.Plan.{Plan}
-use Rattle.model.specs.declared.Made.the-variants as made
 
 -- one call: the promise is what `execute` says
 promised : (s : Stored) (k : Call) (r : Answer k) (t : Stored) → Promised s k r t → (r ≡ execute s k .0) × (t ≡ execute s k .1)
@@ -35,19 +30,20 @@ performed s (e ∷ es) t d =
     let answers : es ≡ history execute (execute s (e .0) .1) (callsOf es) = more .0 ∙ ap (λ (u : Stored). history execute u (callsOf es)) (one .1) in
     ((λ i. (e .0, one .0 i) ∷ answers i), more .1 ∙ ap (λ (u : Stored). after execute u (callsOf es)) (one .1))
 
--- Whatever a making that is not refused and any calls after it answer and leave, as long as each function keeps its promise: demand 3 holds of the list,
--- the answers are those of the rules alone, and the record and the table are those of the set worked out.
-pub performed-guaranteed : (arena words : List ℕ) (p : Plan) (out : Initialized) (arenaLeft wordsLeft : List ℕ) → InitDone arena words p out arenaLeft wordsLeft → out .made ≡ made.Done
-    → (es : List Entry) (t : Stored) → Performed (handed (out .heap) wordsLeft) es t
-    → (es ≡ history (byRules (initConfig arena words p)) fresh (callsOf es))
-    × (t ≡ store (initConfig arena words p) (stateAfter (initConfig arena words p) (callsOf es)))
-    × Guaranteed (initConfig arena words p) (afterInit arena words p) (callsOf es)
+-- Demand 3 holds of what the functions do.
+pub performed-guaranteed : Demand3Performed
 performed-guaranteed arena words p out arenaLeft wordsLeft d done es t run =
+    let c : Config = initConfig arena words p in
     let made : handed (out .heap) wordsLeft ≡ afterInit arena words p = λ i. record { heap = d .heap i; words = d .table i } in
-    let g : Guaranteed (initConfig arena words p) (afterInit arena words p) (callsOf es) = guarantee arena words p (sym (d .answer) ∙ done) (callsOf es) in
+    let g : Guaranteed c (afterInit arena words p) (callsOf es) = guarantee arena words p (sym (d .answer) ∙ done) (callsOf es) in
     let is : (es ≡ history execute (handed (out .heap) wordsLeft) (callsOf es)) × (t ≡ after execute (handed (out .heap) wordsLeft) (callsOf es)) =
-    performed (handed (out .heap) wordsLeft) es t run in (
-      is .0 ∙ ap (λ (u : Stored). history execute u (callsOf es)) made ∙ g .answers,
-      is .1 ∙ ap (λ (u : Stored). after execute u (callsOf es)) made ∙ g .stored,
-      g,
-    )
+    performed (handed (out .heap) wordsLeft) es t run in
+    let left : t ≡ storedAfter (afterInit arena words p) (callsOf es) = is .1 ∙ ap (λ (u : Stored). after execute u (callsOf es)) made in
+    record {
+      answers = is .0 ∙ ap (λ (u : Stored). history execute u (callsOf es)) made ∙ g .answers;
+      stored = left ∙ g .stored;
+      guaranteed = g;
+      served = λ o n a e r u k.
+          let s : Served c (stateAfter c (callsOf es)) n a (allocAligned (storedAfter (afterInit arena words p) (callsOf es)) o n a) = g .served o n a e in
+          (s .0, s .1, k .answer ∙ ap (λ (w : Stored). allocAligned w o n a) left ∙ s .2);
+    }

@@ -1,11 +1,21 @@
--- A list of calls as the functions perform it: of each call nothing is said but what its function promises.
+-- A list of calls as the functions perform it, of each of which nothing is said but its promise, and demand 3 of such a list.
 -- Assumes nothing.
 use mathlib.Core.Path.{_≡_}
 use mathlib.Core.List.{List, [], _∷_}
 use Prim.Native.Nat.{ℕ}
-use Rattle.heap.specs.Stored.{Stored}
-use Rattle.heap.specs.Promises.{AllocDone, FreeDone, BlockSizeDone, TotalsDone, HoldingDone}
-use Rattle.guarantee.specs.Lists.{Call, alloc, alloc-aligned, free, block-size, totals, holding, Answer}
+use Rattle.model.specs.Quantities.{Config}
+use Rattle.model.specs.Allocation.{fresh}
+use Rattle.model.specs.Rules.{initConfig}
+use Rattle.model.specs.Run.{history}
+use Rattle.heap.specs.Stored.{Stored, handed, store}
+use Rattle.heap.specs.Calls.{afterInit}
+use Rattle.heap.specs.Promises.{InitDone, AllocDone, FreeDone, BlockSizeDone, TotalsDone, HoldingDone}
+use Rattle.guarantee.specs.Lists.{Call, alloc, alloc-aligned, free, block-size, totals, holding, Answer, byRules}
+use Rattle.guarantee.specs.Guarantee.{stateAfter, Entitled, Served, Guaranteed}
+use Rattle.heap.specs.declared.Initialized.{Initialized}
+use Rattle.model.specs.declared.Plan.{Plan}
+use Rattle.model.specs.declared.Made.the-variants as made
+use Rattle.model.specs.declared.Placed.{Placed}
 
 -- Handed s, the function of a call answers r and leaves t: its promise. (A free leaves some bytes in the arena too; an enquiry leaves what it found.)
 abbrev pub Promised : Stored → (k : Call) → Answer k → Stored → Type 0
@@ -29,3 +39,21 @@ Performed s (e ∷ es) t = (u : Stored) × Promised s (e .0) (e .1) u × Perform
 abbrev pub callsOf : List Entry → List Call
 callsOf [] = []
 callsOf (e ∷ es) = e .0 ∷ callsOf es
+
+-- The claim about a list that the functions performed with these answers, and that left t, of a heap that is made with c and that its making leaves as s.
+pub record GuaranteedOf (c : Config) (s : Stored) (es : List Entry) (t : Stored) : Type 0 where
+  -- Each answer is the one that the rules and orders give.
+  pub answers : es ≡ history (byRules c) fresh (callsOf es)
+  -- The record and the table are those of the set worked out.
+  pub stored : t ≡ store c (stateAfter c (callsOf es))
+  -- Demand 3's claim holds of the list.
+  pub guaranteed : Guaranteed c s (callsOf es)
+  -- The next allocation, if it is entitled to its block, gets it, whatever its function answers and leaves.
+  pub served : (o n a : ℕ) → Entitled c (stateAfter c (callsOf es)) o n a → (r : Placed) (u : Stored) → Promised t (alloc-aligned o n a) r u → Served c (stateAfter c (callsOf es)) n a r
+
+-- Demand 3 of the functions: the claim holds of every making that is not refused and of every list after it, as long as each function keeps its promise.
+abbrev pub Demand3Performed : Type 0
+Demand3Performed =
+    (arena words : List ℕ) (p : Plan) (out : Initialized) (arenaLeft wordsLeft : List ℕ) → InitDone arena words p out arenaLeft wordsLeft → out .made ≡ made.Done
+    → (es : List Entry) (t : Stored) → Performed (handed (out .heap) wordsLeft) es t
+    → GuaranteedOf (initConfig arena words p) (afterInit arena words p) es t

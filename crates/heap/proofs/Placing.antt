@@ -75,7 +75,7 @@ module _ (r : Heap) (ws : List ℕ) (o n a : ℕ) where
             others ∙ first-then (properOrder o n a) later p
             ∙ first-then (quotaOrder (configOf r) (stateIn r ws) o n) last q
 
-        pub decided-place : (d : Place) → Decided last r ws o n a d → Decided whole r ws o n a d
+        pub decided-place : (d : Place) → Decided last r ws n a d → Decided whole r ws n a d
         decided-place (place.Refused why) e = rest ∙ e
         decided-place (place.At row start) e = (rest ∙ e .0, e .1)
 
@@ -94,7 +94,7 @@ module _ (r : Heap) (ws : List ℕ) (o n a : ℕ) where
           at : Found (configOf r) (r .rows) (granulesFor n) a ws (found.At i s)
           at = subst (Found (configOf r) (r .rows) (granulesFor n) a ws) q here
 
-          pub lowest-at : Lowest r ws o n a i s
+          pub lowest-at : Lowest r ws n a i s
           lowest-at = record { lowest = at .lowest; room = at .room }
 
           abbrev asked : Segment
@@ -111,19 +111,19 @@ module _ (r : Heap) (ws : List ℕ) (o n a : ℕ) where
             pub table-full : r .capacity < r .rows - 1 + k → firstReason last ≡ some refusal.TableFull
             table-full h = rw (fit-at (configOf r) (stateIn r ws) o n a s (at .lowest), lt-ltb (r .capacity) (rowsOf (configOf r) (insert asked (blocksIn (r .rows) ws))) (omega (arith, count)))
 
-            pub place-there : r .rows - 1 + k ≤ r .capacity → Decided last r ws o n a (place.At i s)
+            pub place-there : r .rows - 1 + k ≤ r .capacity → Decided last r ws n a (place.At i s)
             place-there h = (rw (fit-at (configOf r) (stateIn r ws) o n a s (at .lowest), le-ltb (r .capacity) (rowsOf (configOf r) (insert asked (blocksIn (r .rows) ws))) (omega (arith, count))), lowest-at)
 
   -- Refused, it leaves all as it was.
-  pub alloc-not : (p : Place) → Decided whole r ws o n a p → (why : Refusal) → p ≡ place.Refused why → AllocDone r ws o n a (record { placed = placed.Refused why; heap = r }) ws
+  pub alloc-not : (p : Place) → Decided whole r ws n a p → (why : Refusal) → p ≡ place.Refused why → AllocDone r ws o n a (record { placed = placed.Refused why; heap = r }) ws
   alloc-not p decided why q =
-      let e : firstReason whole ≡ some why = subst (Decided whole r ws o n a) q decided in
+      let e : firstReason whole ≡ some why = subst (Decided whole r ws n a) q decided in
       record { answer = rw e; numbered = rw e; heap = rw e; table = rw e }
 
   -- Placed in row i at s.
-  module _ (p : Place) (decided : Decided whole r ws o n a p) (i s : ℕ) (q : p ≡ place.At i s) (b : Segment) (is : (c : Config) → b ≡ block c o n s) where
-    d : Decided whole r ws o n a (place.At i s)
-    d = subst (Decided whole r ws o n a) q decided
+  module _ (p : Place) (decided : Decided whole r ws n a p) (i s : ℕ) (q : p ≡ place.At i s) (b : Segment) (is : (c : Config) → b ≡ block c o n s) where
+    d : Decided whole r ws n a (place.At i s)
+    d = subst (Decided whole r ws n a) q decided
 
     checked : valid r ws ≡ true
     unfolding allocOrder

@@ -52,18 +52,18 @@ pub record Examined (r : Heap) (ws : List ℕ) (k : Census) : Type 0 where
 
 -- The reason in a verdict.
 abbrev pub reasonIn : Verdict → Option Refusal
-reasonIn verdict.Granted = none
+reasonIn verdict.Passed = none
 reasonIn (verdict.Refused why) = some why
 
 -- A place for a block: the start is the lowest, and the row is free and has room from there on.
-pub record Lowest (r : Heap) (ws : List ℕ) (o n a row start : ℕ) : Type 0 where
+pub record Lowest (r : Heap) (ws : List ℕ) (n a row start : ℕ) : Type 0 where
   pub lowest : lowestStart (configOf r) (blocksIn (r .rows) ws) (needed (configOf r) n) a ≡ some start
   pub room : Room (r .rows) (needed (configOf r) n) ws row start
 
--- What is decided of an allocation by an order: why it is refused, or its place.
-abbrev pub Decided : Order Refusal → Heap → List ℕ → ℕ → ℕ → ℕ → Place → Type 0
-Decided order r ws o n a (place.Refused why) = firstReason order ≡ some why
-Decided order r ws o n a (place.At row start) = (firstReason order ≡ none) × Lowest r ws o n a row start
+-- What is decided by an order of an allocation of n bytes on a boundary of a bytes: why it is refused, or its place.
+abbrev pub Decided : Order Refusal → Heap → List ℕ → ℕ → ℕ → Place → Type 0
+Decided order r ws n a (place.Refused why) = firstReason order ≡ some why
+Decided order r ws n a (place.At row start) = (firstReason order ≡ none) × Lowest r ws n a row start
 
 -- A segment is a live block whose first byte is x.
 abbrev pub startsAt : Segment → ℕ → Bool

@@ -15,8 +15,8 @@ enum-known-place c = search needs
 enum-known-place-2 : tie.Need-enum-known-place-2
 enum-known-place-2 c = search needs
 
-block-at-requires : tie.Need-block-at-requires
-block-at-requires c κs = search needs
+new-block-requires : tie.Need-new-block-requires
+new-block-requires c κs = search needs
 
 cast-split-row : tie.Need-cast-split-row
 cast-split-row c = search needs
@@ -24,22 +24,22 @@ cast-split-row c = search needs
 split-row-requires : tie.Need-split-row-requires
 split-row-requires c κs =
     let a = c .before .before .before .before .before .before .before .before .before .args in
-    row-asked (a .heap) (a .table .now) (a .owner) (a .size) (a .align) (c .before .before .before .before .before .before .find-place .result) (c .before .before .before .before .before .before .find-place .ensures) _ _ (c .before .before .before .before .place2 .given .1) _ (c .before .before .block-at .ensures)
+    row-asked (a .heap) (a .table .now) (a .owner) (a .size) (a .align) (c .before .before .before .before .before .before .find-place .result) (c .before .before .before .before .before .before .find-place .ensures) _ _ (c .before .before .before .before .place2 .given .1) _ (c .before .before .new-block .ensures)
 
 add-updated : tie.Need-add-updated
 add-updated c =
     let a = c .before .before .before .before .before .before .before .before .before .before .before .before .before .before .args in
-    omega (arith, used-fits (a .heap) (a .table .now) (a .owner) (a .size) (a .align) (c .before .before .before .before .before .before .before .before .before .before .before .find-place .result) (c .before .before .before .before .before .before .before .before .before .before .before .find-place .ensures) _ _ (c .before .before .before .before .before .before .before .before .before .place2 .given .1) _ (c .before .before .before .before .before .before .before .block-at .ensures))
+    omega (arith, used-fits (a .heap) (a .table .now) (a .owner) (a .size) (a .align) (c .before .before .before .before .before .before .before .before .before .before .before .find-place .result) (c .before .before .before .before .before .before .before .before .before .before .before .find-place .ensures) _ _ (c .before .before .before .before .before .before .before .before .before .place2 .given .1) _ (c .before .before .before .before .before .before .before .new-block .ensures))
 
 updated-requires : tie.Need-updated-requires
 updated-requires c κs =
     let a = c .before .before .before .before .before .before .before .before .before .before .before .before .before .before .args in
-    rows-fit (a .heap) (a .table .now) (a .owner) (a .size) (a .align) (c .before .before .before .before .before .before .before .before .before .before .before .find-place .result) (c .before .before .before .before .before .before .before .before .before .before .before .find-place .ensures) _ _ (c .before .before .before .before .before .before .before .before .before .place2 .given .1) _ (c .before .before .before .before .before .before .before .block-at .ensures) _ _ (c .before .before .before .before .split-row .ensures)
+    rows-fit (a .heap) (a .table .now) (a .owner) (a .size) (a .align) (c .before .before .before .before .before .before .before .before .before .before .before .find-place .result) (c .before .before .before .before .before .before .before .before .before .before .before .find-place .ensures) _ _ (c .before .before .before .before .before .before .before .before .before .place2 .given .1) _ (c .before .before .before .before .before .before .before .new-block .ensures) _ _ (c .before .before .before .before .split-row .ensures)
 
 mul-t20 : tie.Need-mul-t20
 mul-t20 c =
     let a = c .before .before .before .before .before .before .before .before .before .before .before .before .before .before .before .args in
-    omega (arith, offset-fits (a .heap) (a .table .now) (a .owner) (a .size) (a .align) (c .before .before .before .before .before .before .before .before .before .before .before .before .find-place .result) (c .before .before .before .before .before .before .before .before .before .before .before .before .find-place .ensures) _ _ (c .before .before .before .before .before .before .before .before .before .before .place2 .given .1) _ (c .before .before .before .before .before .before .before .before .block-at .ensures))
+    omega (arith, offset-fits (a .heap) (a .table .now) (a .owner) (a .size) (a .align) (c .before .before .before .before .before .before .before .before .before .before .before .before .find-place .result) (c .before .before .before .before .before .before .before .before .before .before .before .before .find-place .ensures) _ _ (c .before .before .before .before .before .before .before .before .before .before .place2 .given .1) _ (c .before .before .before .before .before .before .before .before .new-block .ensures))
 
 same-length : tie.Need-same-length
 same-length c = search needs
@@ -55,7 +55,7 @@ same-length-2 c = search needs
 returns-2 : tie.Need-returns-2
 returns-2 c =
     let a = c .before .before .before .before .before .before .before .before .before .before .before .before .before .before .before .args in
-    alloc-done (a .heap) (a .table .now) (a .owner) (a .size) (a .align) (c .before .before .before .before .before .before .before .before .before .before .before .before .find-place .result) (c .before .before .before .before .before .before .before .before .before .before .before .before .find-place .ensures) _ _ (c .before .before .before .before .before .before .before .before .before .before .place2 .given .1) _ (c .before .before .before .before .before .before .before .before .block-at .ensures) _ _ (c .before .before .before .before .before .split-row .ensures)
+    alloc-done (a .heap) (a .table .now) (a .owner) (a .size) (a .align) (c .before .before .before .before .before .before .before .before .before .before .before .before .find-place .result) (c .before .before .before .before .before .before .before .before .before .before .before .before .find-place .ensures) _ _ (c .before .before .before .before .before .before .before .before .before .before .place2 .given .1) _ (c .before .before .before .before .before .before .before .before .new-block .ensures) _ _ (c .before .before .before .before .before .split-row .ensures)
     _ _ (c .updated .ensures) (omega arith) _ (omega arith)
 
 pub alloc-aligned-spec : {M : Type 1} → statement M
@@ -65,7 +65,7 @@ alloc-aligned-spec =
     find-place-requires
     enum-known-place
     enum-known-place-2
-    block-at-requires
+    new-block-requires
     cast-split-row
     split-row-requires
     add-updated

@@ -45,7 +45,7 @@ release-row-requires c κs =
     let t = c .before .before .before .before .before .before .before .before .before .before in
     let f = free-found _ _ _ _ _ _ (t .before .before .find-freed .ensures) _ (t .found2 .given .1) in
     let b = bounds _ _ (f .0) in
-    (f .1, omega (arith, b .words, b .rowsMost), omega (arith, b .whole))
+    (omega (arith, f .1), omega (arith, b .words, b .rowsMost), omega (arith, b .whole))
 
 sub-updated : tie.Need-sub-updated
 sub-updated c =

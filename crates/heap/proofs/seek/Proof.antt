@@ -42,8 +42,8 @@ row-requires c κs =
     let at = lowest-at (a .heap) (a .table .now) (a .owner) (a .size) (a .align) (p .pre .0) (p .pre .1) _ (c .before .before .before .before .granules-for .ensures) _ (c .before .before .before .first-fit .ensures) _ _ (c .before .fit .given .1) in
     omega (arith, b .words, b .rowsMost, at .room .inUse)
 
-block-at-requires : tie.Need-block-at-requires
-block-at-requires c κs = search needs
+new-block-requires : tie.Need-new-block-requires
+new-block-requires c κs = search needs
 
 cast-if1 : tie.Need-cast-if1
 cast-if1 c = search needs
@@ -60,7 +60,7 @@ pieces-requires c κs =
     let b = bounds (a .heap) (a .table .now) (p .pre .0) in
     let at = lowest-at (a .heap) (a .table .now) (a .owner) (a .size) (a .align) (p .pre .0) (p .pre .1) _ (c .before .before .before .before .before .before .before .granules-for .ensures) _ (c .before .before .before .before .before .before .first-fit .ensures) _ _ (c .before .before .before .before .fit .given .1) in
     let row = ap (λ (x : Segment). x .start + x .length) (c .before .before .row .ensures) in
-    let block = ap (λ (x : Segment). x .start + x .length) (c .before .block-at .ensures (configOf (a .heap))) in
+    let block = ap (λ (x : Segment). x .start + x .length) (c .before .new-block .ensures (configOf (a .heap))) in
     let end = b .row _ (at .room .inUse) in
     (omega (arith, block, end, at .room .upTo, b .granules), omega (arith, row, end, b .granules))
 
@@ -78,14 +78,14 @@ returns-2 c =
     let p = c .before .before .before .before .before .before .before .before .before .before .before .before in
     let a = p .args in
     table-full (a .heap) (a .table .now) (a .owner) (a .size) (a .align) (p .pre .0) (p .pre .1) _ (c .before .before .before .before .before .before .before .before .before .granules-for .ensures) _ (c .before .before .before .before .before .before .before .before .first-fit .ensures) _ _ (c .before .before .before .before .before .before .fit .given .1)
-    _ _ (c .before .before .before .before .row .ensures) (c .before .before .before .block-at .ensures (configOf (a .heap))) _ (c .before .pieces .ensures .0) (omega arith)
+    _ _ (c .before .before .before .before .row .ensures) (c .before .before .before .new-block .ensures (configOf (a .heap))) _ (c .before .pieces .ensures .0) (omega arith)
 
 returns-3 : tie.Need-returns-3
 returns-3 c =
     let p = c .before .before .before .before .before .before .before .before .before .before .before .before in
     let a = p .args in
     place-there (a .heap) (a .table .now) (a .owner) (a .size) (a .align) (p .pre .0) (p .pre .1) _ (c .before .before .before .before .before .before .before .before .before .granules-for .ensures) _ (c .before .before .before .before .before .before .before .before .first-fit .ensures) _ _ (c .before .before .before .before .before .before .fit .given .1)
-    _ _ (c .before .before .before .before .row .ensures) (c .before .before .before .block-at .ensures (configOf (a .heap))) _ (c .before .pieces .ensures .0) (omega arith)
+    _ _ (c .before .before .before .before .row .ensures) (c .before .before .before .new-block .ensures (configOf (a .heap))) _ (c .before .pieces .ensures .0) (omega arith)
 
 pub seek-spec : {M : Type 1} → statement M
 seek-spec =
@@ -97,7 +97,7 @@ seek-spec =
     enum-told
     enum-known-fit
     row-requires
-    block-at-requires
+    new-block-requires
     cast-if1
     sub-if1
     pieces-requires
