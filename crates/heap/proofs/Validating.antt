@@ -3,13 +3,13 @@
 use mathlib.Core.Path.{_≡_, sym, ap, _∙_}
 use mathlib.Core.Bool.{true, false}
 use mathlib.Core.List.{List}
-use Prim.Native.Nat.{ℕ, _+_, _*_, _-_, _≤_, _<_}
+use Prim.Native.Nat.{ℕ, _+_, _*_, _-_, _%_, _≤_, _<_}
 use native.Mathlib.Omega.{arith}
 use lib.Dec.{leb, eqb}
 use lib.ListN.{length, getD, drop}
 use borrow.Author.Tests.{eqb-true, eq-eqb, le-leb, lt-leb, leb-true}
-use Rattle.model.specs.Choose.{every, total}
-use Rattle.model.specs.Quantities.{within, owners, quota, areQuotas, inRange}
+use Rattle.model.specs.Choose.{both, every, total}
+use Rattle.model.specs.Quantities.{within, isArena, isTable, owners, quota, areQuotas, inRange}
 use Rattle.model.specs.Allocation.{charge, granulesOf, ownedBy}
 use Rattle.model.proofs.Choosing.{split, tests, same-test, parts, clash, both-left, both-right, both-true}
 use Rattle.model.proofs.Ranges.{within-least, within-most, bounds-within, each-owner, all-owners, quota-at}
@@ -47,6 +47,22 @@ quotas-all most qs n e = sym (both-true _ _ (eq-eqb (length qs) 8 n) e)
 
 pub quotas-not : (most : ℕ) (qs : List ℕ) → every (within 0 most) qs ≡ false → false ≡ areQuotas most qs
 quotas-not most qs e = split (areQuotas most qs) (λ q. absurd (clash _ (both-right (eqb (length qs) 8) (every (within 0 most) qs) q) e)) (λ q. sym q)
+
+-- The arena's range in granules, and the table's in rows.
+in-units : (low high step least most n m : ℕ) → (low ≤ m → least ≤ n) → (least ≤ n → low ≤ m) → (m ≤ high → n ≤ most) → (n ≤ most → m ≤ high) → m % step ≡ 0
+    → both (within low high m) (eqb (m % step) 0) ≡ within least most n
+in-units low high step least most n m down up down′ up′ z =
+    same-test (both (within low high m) (eqb (m % step) 0)) (within least most n)
+    (λ q. let r : within low high m ≡ true = search parts in
+    bounds-within least most n (down (within-least low high m r)) (down′ (within-most low high m r)))
+    (λ q. both-true _ _ (bounds-within low high m (up (within-least least most n q)) (up′ (within-most least most n q))) (eq-eqb (m % step) 0 z))
+
+pub arena-range : (g : ℕ) → isArena (16 * g) ≡ within 1 65536 g
+arena-range g =
+    in-units 16 1048576 16 1 65536 g (16 * g) (λ h. omega arith) (λ h. omega arith) (λ h. omega arith) (λ h. omega arith) (omega arith)
+
+pub table-range : (n : ℕ) → isTable (4 * n) ≡ within 1 512 n
+table-range n = in-units 4 2048 4 1 512 n (4 * n) (λ h. omega arith) (λ h. omega arith) (λ h. omega arith) (λ h. omega arith) (omega arith)
 
 -- Without a look at a row.
 module _ (r : Heap) (ws : List ℕ) where

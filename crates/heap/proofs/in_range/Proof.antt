@@ -3,6 +3,7 @@
 use mathlib.Core.Path.{sym, _∙_}
 use borrow.Author.Needs.{needs}
 use borrow.Author.Tests.{not-true, not-false}
+use Rattle.heap.proofs.Validating.{arena-range, table-range}
 use Rattle.heap.proofs.in_range.Statement.{statement}
 use Rattle.heap.proofs.in_range.Tie as tie
 
@@ -12,29 +13,20 @@ quotas-in-range-requires c κs = search needs
 returns : tie.Need-returns
 returns c = rw (sym (c .before .quotas-in-range .ensures) ∙ not-true _ (c .if1 .taken))
 
-cast-is-arena : tie.Need-cast-is-arena
-cast-is-arena c = search needs
-
-mul-is-arena : tie.Need-mul-is-arena
-mul-is-arena c = search needs
-
-is-arena-requires : tie.Need-is-arena-requires
-is-arena-requires c κs = search needs
+is-within-requires : tie.Need-is-within-requires
+is-within-requires c κs = search needs
 
 returns-2 : tie.Need-returns-2
-returns-2 c = rw (sym (c .before .before .before .before .quotas-in-range .ensures) ∙ not-false _ (c .before .before .before .if1 .left), sym (c .before .is-arena .ensures) ∙ not-true _ (c .if2 .taken))
+returns-2 c =
+    rw (sym (c .before .before .before .quotas-in-range .ensures) ∙ not-false _ (c .before .before .if1 .left), arena-range (c .before .before .before .before .before .before .args .heap .granules), sym (c .before .is-within .ensures) ∙ not-true _ (c .if2 .taken))
 
-cast-is-table : tie.Need-cast-is-table
-cast-is-table c = search needs
-
-mul-is-table : tie.Need-mul-is-table
-mul-is-table c = search needs
-
-is-table-requires : tie.Need-is-table-requires
-is-table-requires c κs = search needs
+is-within-requires-2 : tie.Need-is-within-requires-2
+is-within-requires-2 c κs = search needs
 
 returns-3 : tie.Need-returns-3
-returns-3 c = rw (sym (c .before .before .before .before .before .before .quotas-in-range .ensures) ∙ not-false _ (c .before .before .before .before .before .if1 .left), sym (c .before .before .before .is-arena .ensures) ∙ not-false _ (c .before .before .if2 .left)) (c .is-table .ensures)
+returns-3 c =
+    let h = c .before .before .before .before .before .before .before .args .heap in
+    rw (sym (c .before .before .before .before .quotas-in-range .ensures) ∙ not-false _ (c .before .before .before .if1 .left), arena-range (h .granules), sym (c .before .before .is-within .ensures) ∙ not-false _ (c .before .if2 .left), table-range (h .capacity)) (c .is-within2 .ensures)
 
 pub in-range-spec : {M : Type 1} → statement M
 in-range-spec =
@@ -42,11 +34,7 @@ in-range-spec =
     (tie.spec
     quotas-in-range-requires
     returns
-    cast-is-arena
-    mul-is-arena
-    is-arena-requires
+    is-within-requires
     returns-2
-    cast-is-table
-    mul-is-table
-    is-table-requires
+    is-within-requires-2
     returns-3)
