@@ -48,7 +48,7 @@ pub record GuaranteedOf (c : Config) (s : Stored) (es : List Entry) (t : Stored)
   pub stored : t ≡ store c (stateAfter c (callsOf es))
   -- Demand 3's claim holds of the list.
   pub guaranteed : Guaranteed c s (callsOf es)
-  -- The next allocation, if it is entitled to its block, gets it, whatever its function answers and leaves.
+  -- The next allocation, if it is entitled to its block, gets it: so its function answers, if it keeps its promise.
   pub served : (o n a : ℕ) → Entitled c (stateAfter c (callsOf es)) o n a → (r : Placed) (u : Stored) → Promised t (alloc-aligned o n a) r u → Served c (stateAfter c (callsOf es)) n a r
 
 -- Demand 3 of the functions: the claim holds of every making that is not refused and of every list after it, as long as each function keeps its promise.

@@ -45,7 +45,7 @@ agreesWith r ws k =
     (both (within (r .used) (r .granules) (r .peak))
     (both (keepsAll (k .blocks) (r .«block_quotas»)) (keepsAll (k .held) (r .«granule_quotas»)))))
 
--- What a check of a record and a table tells: whether they are valid and, if so, the figures of the live blocks.
+-- What a check of a record and a table tells: whether they are valid and, if so, the figures of the live blocks and free runs.
 pub record Examined (r : Heap) (ws : List ℕ) (k : Census) : Type 0 where
   pub ok : k .ok ≡ valid r ws
   pub counted : k .ok ≡ true → Counted (configOf r) (r .rows) ws k
