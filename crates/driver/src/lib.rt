@@ -1,0 +1,106 @@
+// The drivers' layer: the heap's record is lent, and updated where it stands. Each call is the one of `heap` with the same name: what it answers, and
+// what it leaves of the words and bytes that it is lent, is what that one does. Making is not here: there is no record to lend yet.
+ghost use Rattle.heap.specs.Promises.{AllocDone, FreeDone, BlockSizeDone, TotalsDone, HoldingDone};
+use heap::Allocated;
+use heap::Heap;
+use heap::Released;
+use model::BlockSize;
+use model::Freed;
+use model::Holding;
+use model::Placed;
+use model::Totals;
+
+// Lends `size` bytes to `owner`, on any boundary, and answers the byte offset.
+pub fn alloc(heap: &mut Heap, table: &mut [u32], owner: u32, size: u32) -> Placed
+    ensures { λ r. ⌜ AllocDone (now (heap .entry)) (now (table .entry)) owner size 16 (record { placed = r; heap = now (heap .exit) }) (now (table .exit)) ⌝ }
+{
+    let out = heap::alloc(*heap, table, owner, size);
+    *heap = out.heap;
+    out.placed
+}
+
+// Lends `size` bytes to `owner` on a boundary of `align` bytes, and answers the byte offset.
+pub fn alloc_aligned(
+    heap: &mut Heap,
+    table: &mut [u32],
+    owner: u32,
+    size: u32,
+    align: u32,
+) -> Placed
+    ensures { λ r. ⌜ AllocDone (now (heap .entry)) (now (table .entry)) owner size align (record { placed = r; heap = now (heap .exit) }) (now (table .exit)) ⌝ }
+{
+    let out = heap::alloc_aligned(*heap, table, owner, size, align);
+    *heap = out.heap;
+    out.placed
+}
+
+// Takes the block of `owner` at byte `offset` back, zeroes its bytes and answers how many they are.
+pub fn free(heap: &mut Heap, table: &mut [u32], arena: &mut [u8], owner: u32, offset: u32) -> Freed
+    ensures { λ r. ⌜ FreeDone (now (heap .entry)) (now (table .entry)) (now (arena .entry)) owner offset (record { freed = r; heap = now (heap .exit) }) (now (table .exit)) (now (arena .exit)) ⌝ }
+{
+    let out = heap::free(*heap, table, arena, owner, offset);
+    *heap = out.heap;
+    out.freed
+}
+
+// Answers the bytes requested and the bytes held of the block of `owner` at byte `offset`.
+pub fn block_size(heap: &Heap, table: &[u32], owner: u32, offset: u32) -> BlockSize
+    ensures { λ r. ⌜ BlockSizeDone (now (heap .entry)) (now (table .entry)) owner offset r ⌝ }
+{
+    heap::block_size(*heap, table, owner, offset)
+}
+
+// Answers used, free, peak and the longest free run, in bytes.
+pub fn totals(heap: &Heap, table: &[u32]) -> Totals
+    ensures { λ r. ⌜ TotalsDone (now (heap .entry)) (now (table .entry)) r ⌝ }
+{
+    heap::totals(*heap, table)
+}
+
+// Answers how many live blocks `owner` has and how many bytes they hold.
+pub fn holding(heap: &Heap, table: &[u32], owner: u32) -> Holding
+    ensures { λ r. ⌜ HoldingDone (now (heap .entry)) (now (table .entry)) owner r ⌝ }
+{
+    heap::holding(*heap, table, owner)
+}
+
+// The mutating calls above for a caller that keeps the record itself: each lends its own copy and answers it beside the answer.
+
+pub fn alloc_by_value(heap: Heap, table: &mut [u32], owner: u32, size: u32) -> Allocated
+    ensures { λ r. ⌜ AllocDone heap (now (table .entry)) owner size 16 r (now (table .exit)) ⌝ }
+{
+    let mut h = heap;
+    let placed = alloc(&mut h, table, owner, size);
+    Allocated {
+        placed: placed,
+        heap: h,
+    }
+}
+
+pub fn alloc_aligned_by_value(
+    heap: Heap,
+    table: &mut [u32],
+    owner: u32,
+    size: u32,
+    align: u32,
+) -> Allocated
+    ensures { λ r. ⌜ AllocDone heap (now (table .entry)) owner size align r (now (table .exit)) ⌝ }
+{
+    let mut h = heap;
+    let placed = alloc_aligned(&mut h, table, owner, size, align);
+    Allocated {
+        placed: placed,
+        heap: h,
+    }
+}
+
+pub fn free_by_value(heap: Heap, table: &mut [u32], arena: &mut [u8], owner: u32, offset: u32) -> Released
+    ensures { λ r. ⌜ FreeDone heap (now (table .entry)) (now (arena .entry)) owner offset r (now (table .exit)) (now (arena .exit)) ⌝ }
+{
+    let mut h = heap;
+    let freed = free(&mut h, table, arena, owner, offset);
+    Released {
+        freed: freed,
+        heap: h,
+    }
+}
