@@ -94,7 +94,13 @@ pub fn alloc_aligned_by_value(
     }
 }
 
-pub fn free_by_value(heap: Heap, table: &mut [u32], arena: &mut [u8], owner: u32, offset: u32) -> Released
+pub fn free_by_value(
+    heap: Heap,
+    table: &mut [u32],
+    arena: &mut [u8],
+    owner: u32,
+    offset: u32,
+) -> Released
     ensures { λ r. ⌜ FreeDone heap (now (table .entry)) (now (arena .entry)) owner offset r (now (table .exit)) (now (arena .exit)) ⌝ }
 {
     let mut h = heap;
