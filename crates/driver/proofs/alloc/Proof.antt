@@ -1,35 +1,15 @@
--- `driver::alloc` meets its contract: it is a thin function over `heap::alloc` (`Thin.antt`), of which the proof knows only that it meets its own.
+-- `driver::alloc` meets its contract: a thin function over `heap::alloc`, of which the proof knows only that it meets its own (`Thin.antt`).
 -- Assumes nothing.
-use mathlib.Core.Path.{ap}
-use mathlib.Core.List.{[], _∷_}
-use mir.Syntax.{named, tyInt, w32}
-use base.Logic.{id⊢}
-use prog.Wp.{WpFn}
-use ghost.Atoms.{Atoms}
+use mathlib.Core.Path.{refl}
+use mir.Syntax.{w32}
 use contract.Running.{givenOf}
-use types.Kit.{Given}
-use sound.WpLaws.{fmOf}
-use denote.RattleType.{Valss}
-use denote.Laws.{valss}
-use denote.Plain.{uint-vals, uint-tells}
-use denote.Builtin.{u32}
-use denote.Ref.{ptr-vals, mut-tells}
-use denote.Slice.{slice-vals, mut-slice-tells}
-use denote.Steps.{only}
-use denote.Struct.Laws as LL
-use denote.Enum.Laws as EL
-use denote.Signature.{typesAt}
-use denote.Triple.Clauses.{atExit}
 use denote.Triple.Spec.{tripleOf}
-use Rattle.heap.proofs.Heap as T
-use Rattle.model.proofs.Placed as P
-use Rattle.model.proofs.Placed.Laws as P′
-use Rattle.heap.proofs.Allocated as O
-use Rattle.heap.proofs.Allocated.Laws as O′
 use Rattle.heap.proofs.alloc as core
 use Rattle.heap.proofs.alloc.Symbol as core-def
 use Rattle.heap.proofs.alloc.Met as core-thm
-use Rattle.driver.proofs.Thin.{heapVals, others, word, lends-on, meets-by, thin, concluded}
+use Rattle.driver.proofs.Answers.{heapVals, placed}
+use Rattle.driver.proofs.Handed.{lends, word, none}
+use Rattle.driver.proofs.Thin.{thin-met}
 use Rattle.driver.proofs.alloc as f
 use Rattle.driver.proofs.alloc.Key as key
 use Rattle.driver.proofs.alloc.Statement as stated
@@ -38,26 +18,7 @@ use Rattle.driver.proofs.alloc.Code as code
 pub alloc-spec : {M : Type 1} → stated.statement M
 unfolding code.routine
 alloc-spec 𝓤 H 𝓜 𝓖 𝓡 =
-    let A : Atoms 𝓤 = 𝓖 .A in
-    let W : Given 𝓤 H A = givenOf 𝓤 H 𝓜 𝓖 in
-    concluded 𝓤 H 𝓜 𝓡 (tripleOf 𝓤 H A f.signature (f.spec 𝓤 H A (𝓜 .mem) (𝓡 .run))) (tripleOf 𝓤 H A core.signature (core.spec 𝓤 H A (𝓜 .mem) (𝓡 .run)))
-    code.env key.name code.function (code.unfolded 𝓤 H 𝓜 𝓡) core-def.name core-def.routine code.calls-heap·alloc (core-thm.met 𝓤 H 𝓜 𝓖 𝓡) (λ 𝓣 known.
-    meets-by 𝓤 H A W f.ended (f.clauses 𝓤 H A (𝓜 .mem) (𝓡 .run)) (WpFn 𝓤 H (𝓣 .C) (𝓣 .Λ) code.function)
-    -- how the parameters' machine values are spelled, and that they are told
-    (λ κs. (ptr-vals, (slice-vals, (uint-vals w32, (uint-vals w32, tt)))))
-    (λ κs. (mut-tells (named 0) (κs .0) T.the-row, (mut-slice-tells (named 1) (κs .1 .0) u32, (uint-tells w32, (uint-tells w32, tt))))) (λ κs qs bounds a g are.
-    let vss : Valss (typesAt (others (f.signature .params)) κs) = valss (typesAt (others (f.signature .params)) κs) (slice-vals, (uint-vals w32, (uint-vals w32, tt))) (a .1) in
-    -- what is handed on, and that it fits
-    thin 𝓤 H A W (𝓣 .C) (𝓣 .Λ) core-def.name 2 (lends-on 1 (tyInt w32) (a .1 .0) ∷ word w32 (a .1 .1 .0) ∷ word w32 (a .1 .1 .1 .0) ∷ [])
-    ((tt, (tt, (record { fits = are .1 .0 .0 .1 .0 }, tt))), ((tt, record { fits = are .1 .1 .0 .1 }), ((tt, record { fits = are .1 .1 .1 .0 .1 }), tt)))
-    -- the core's contract, at what it is called with
-    (fmOf 𝓤 H (W .laws) 𝓣) (core.signature .lifetimes) (core.signature .outlives) (others (core.signature .params)) (core.ended .kept .1) O.the-row (core.clauses 𝓤 H A (𝓜 .mem) (𝓡 .run))
-    (κs .0) (qs .0) (a .0) (κs .1) (qs .1) (a .1) vss tt
-    -- the answer's parts
-    (O.struct .name) P′.mir P.the-row (EL.val P.the-type P′.the-laws) (λ r. r .placed) (λ r. r .heap) (EL.makes P.the-type P′.the-plain 𝓤 H A) (λ r w is.
-    let of = LL.owed O.the-type O′.the-laws r _ is in
-    ((ap only (LL.tells O.the-type O′.the-laws r _ is), LL.lawful O.the-type O′.the-laws 𝓤 H A W .typed r _ is .0, EL.lawful P.the-type P′.the-laws 𝓤 H A W tt .typed (r .placed) _ (of .0) .0, of .1 .0), of .0))
-    -- what is ensured is what the core ensures, of the answer with the new heap beside it
-    (λ r h ws. f.clauses 𝓤 H A (𝓜 .mem) (𝓡 .run) κs a .ensures g r (atExit f.ended κs a (h, ws)))
-    (λ r ws. id⊢ 𝓤 _)
-    (known ((κs .1, qs .1, tt, (a .0 .now, a .1), (heapVals (a .0 .now), vss)), tt))))
+    thin-met 𝓤 H 𝓜 𝓖 𝓡 (lends 1 tt w32 (word (word none))) code.env key.name code.function (code.unfolded 𝓤 H 𝓜 𝓡)
+    core-def.name core-def.routine code.calls-heap·alloc (tripleOf 𝓤 H (𝓖 .A) core.signature (core.spec 𝓤 H (𝓖 .A) (𝓜 .mem) (𝓡 .run))) (core-thm.met 𝓤 H 𝓜 𝓖 𝓡)
+    (placed 𝓤 H (𝓖 .A) (givenOf 𝓤 H 𝓜 𝓖)) (f.clauses 𝓤 H (𝓖 .A) (𝓜 .mem) (𝓡 .run)) (λ κs a. refl)
+    (λ run known κs qs x a vss g. known ((κs .1, qs .1, tt, (x .now, a), (heapVals (x .now), vss)), tt))
