@@ -101,7 +101,7 @@ module _ {M : Type 1} (𝓤 : URA M) (H : Heap 𝓤) (A : Atoms 𝓤) where
   Asked h Tok Req Own = sep 𝓤 (sep 𝓤 Tok (sem 𝓤 H A (fsep (T.the-row .own h (heapVals h)) Own))) Req
 
   -- and what it gives back: the tokens, what the result owns, and for last values ws of the other parameters what L and F say
-  abbrev Says : {Ws : Type 0} → (Ws → Fml) → (Ws → SProp 𝓤) → Unit {0} × Ws → SProp 𝓤
+  abbrev pub Says : {Ws : Type 0} → (Ws → Fml) → (Ws → SProp 𝓤) → Unit {0} × Ws → SProp 𝓤
   Says L F ws = sep 𝓤 (sem 𝓤 H A (fsep ftrue (L (ws .1)))) (F (ws .1))
 
   abbrev pub Back : (R : RattleType) {Ws : Type 0} → (Ws → Fml) → SProp 𝓤 → (R .Denot → Ws → SProp 𝓤) → Val → R .Denot → SProp 𝓤

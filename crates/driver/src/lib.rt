@@ -110,3 +110,21 @@ pub fn free_by_value(
         heap: h,
     }
 }
+
+pub fn block_size_by_value(heap: Heap, table: &[u32], owner: u32, offset: u32) -> BlockSize
+    ensures { λ r. ⌜ BlockSizeDone heap (now (table .entry)) owner offset r ⌝ }
+{
+    block_size(&heap, table, owner, offset)
+}
+
+pub fn totals_by_value(heap: Heap, table: &[u32]) -> Totals
+    ensures { λ r. ⌜ TotalsDone heap (now (table .entry)) r ⌝ }
+{
+    totals(&heap, table)
+}
+
+pub fn holding_by_value(heap: Heap, table: &[u32], owner: u32) -> Holding
+    ensures { λ r. ⌜ HoldingDone heap (now (table .entry)) owner r ⌝ }
+{
+    holding(&heap, table, owner)
+}
