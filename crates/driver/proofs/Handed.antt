@@ -6,23 +6,15 @@ use mathlib.Core.Path.{_≡_, refl, ap}
 use Prim.Native.Nat.{ℕ}
 use mathlib.Core.List.{[], _∷_, List}
 use lib.ListN.{length}
-use mir.Syntax.{Ty, Width, tcons, tnil, tyStruct, tyRef, tyInt, named, imm, w32, w64}
+use mir.Syntax.{Ty, Width, tyRef, tyInt, named, imm, w32}
 use mir.Val.{Val, vint}
 use contract.Lifetimes.{Lfts, Within, lftAt}
-use denote.RattleType.{Denots, flat}
-use denote.Laws.{Ises, Are, Spells, valss, Tellss}
-use denote.Plain.{UInt, uint-vals, uint-tells}
-use denote.Ref.{RefT}
-use denote.Slice.{sliceVal, sliceName, slice-vals, mut-slice-tells, shr-slice-tells}
+use denote.RattleType.{RattleType, Denots, flat}
+use denote.Laws.{Is, Ises, Are, Spells, valss, Tells, Tellss}
+use denote.Plain.{UInt, uint-tells}
+use denote.Slice.{sliceTy, sliceVal, slice-vals, ShrSlice, mut-slice-tells, shr-slice-tells}
 use denote.Signature.{Slot, typesAt, plain as plain-slot, mutSlice, shrSlice}
-use Rattle.driver.proofs.Passed.{AllFit, Pass, plain, slice, vals-of, given}
-
--- a slice that is handed on, at the lifetime 'j: a `&mut [T]` is lent on, a `&[T]` passed as it is
-abbrev lent-on : ℕ → Ty → RefT (List ℕ) → Pass
-lent-on j ε x = slice (named j) ε (x .ptr .0) (x .ptr .1) (length (x .now))
-
-abbrev shown-on : ℕ → Ty → RefT (List ℕ) → Pass
-shown-on j ε x = plain (tyStruct sliceName (tcons (tyRef (named j) imm ε) (tcons (tyInt w64) tnil))) (sliceVal (x .ptr) (length (x .now)))
+use Rattle.driver.proofs.Passed.{Fits, AllFit, Pass, plain, slice, vals-of, given}
 
 module _ {n : ℕ} where
   pub record Handing (ss : List (Slot n)) : Type 2 where
@@ -36,30 +28,31 @@ module _ {n : ℕ} where
   none = record { spells = λ κs. tt; tells = λ κs. tt; passes = λ κs a. []; fits = λ κs a are. tt; same = λ κs a. refl }
 
   module _ {ss : List (Slot n)} where
-    abbrev pub word : Handing ss → Handing (plain-slot (λ _. UInt w32) ∷ ss)
-    word h = record {
-      spells = λ κs. (uint-vals w32, h .spells κs);
-      tells = λ κs. (uint-tells w32, h .tells κs);
-      passes = λ κs a. plain (tyInt w32) (vint w32 (a .0)) ∷ h .passes κs (a .1);
-      fits = λ κs a are. ((tt, record { fits = are .0 .1 }), h .fits κs (a .1) (are .1));
-      same = λ κs a. ap (λ (vs : List Val). vint w32 (a .0) ∷ vs) (h .same κs (a .1));
+    -- a parameter of one machine value, passed as it is
+    abbrev passed : (R : Lfts n → RattleType) (τ : Ty) (val : (κs : Lfts n) → R κs .Denot → Val) → ((κs : Lfts n) → Tells (R κs) (Is (R κs)) (λ x. val κs x ∷ [])) → ((κs : Lfts n) (x : R κs .Denot) → Is (R κs) x (val κs x ∷ []) → Fits τ (val κs x)) → Handing ss → Handing (plain-slot R ∷ ss)
+    passed R τ val tells fits h = record {
+      spells = λ κs. ((λ x. val κs x ∷ []), h .spells κs);
+      tells = λ κs. (tells κs, h .tells κs);
+      passes = λ κs a. plain τ (val κs (a .0)) ∷ h .passes κs (a .1);
+      fits = λ κs a are. (fits κs (a .0) (are .0), h .fits κs (a .1) (are .1));
+      same = λ κs a. ap (λ (vs : List Val). val κs (a .0) ∷ vs) (h .same κs (a .1));
     }
 
+    abbrev pub word : Handing ss → Handing (plain-slot (λ _. UInt w32) ∷ ss)
+    word = passed (λ _. UInt w32) (tyInt w32) (λ κs n. vint w32 n) (λ κs. uint-tells w32) (λ κs n is. (tt, record { fits = is .1 }))
+
     module _ (j : ℕ) (ok : Within n j) (w : Width) where
+      abbrev pub shows : Handing ss → Handing (shrSlice j ok (λ _. UInt w) ∷ ss)
+      shows =
+          passed (λ κs. ShrSlice (named j) (lftAt n j ok κs) (UInt w)) (sliceTy (tyRef (named j) imm (tyInt w))) (λ κs x. sliceVal (x .ptr) (length (x .now)))
+          (λ κs. shr-slice-tells (named j) (lftAt n j ok κs) (UInt w)) (λ κs x is. (tt, (tt, (record { fits = is .0 .1 .0 }, tt))))
+
+      -- lent on, through temporaries
       abbrev pub lends : Handing ss → Handing (mutSlice j ok (λ _. UInt w) ∷ ss)
       lends h = record {
         spells = λ κs. (slice-vals, h .spells κs);
         tells = λ κs. (mut-slice-tells (named j) (lftAt n j ok κs) (UInt w), h .tells κs);
-        passes = λ κs a. lent-on j (tyInt w) (a .0) ∷ h .passes κs (a .1);
-        fits = λ κs a are. ((tt, (tt, (record { fits = are .0 .0 .1 .0 }, tt))), h .fits κs (a .1) (are .1));
-        same = λ κs a. ap (λ (vs : List Val). sliceVal (a .0 .ptr) (length (a .0 .now)) ∷ vs) (h .same κs (a .1));
-      }
-
-      abbrev pub shows : Handing ss → Handing (shrSlice j ok (λ _. UInt w) ∷ ss)
-      shows h = record {
-        spells = λ κs. (slice-vals, h .spells κs);
-        tells = λ κs. (shr-slice-tells (named j) (lftAt n j ok κs) (UInt w), h .tells κs);
-        passes = λ κs a. shown-on j (tyInt w) (a .0) ∷ h .passes κs (a .1);
+        passes = λ κs a. slice (named j) (tyInt w) (a .0 .ptr .0) (a .0 .ptr .1) (length (a .0 .now)) ∷ h .passes κs (a .1);
         fits = λ κs a are. ((tt, (tt, (record { fits = are .0 .0 .1 .0 }, tt))), h .fits κs (a .1) (are .1));
         same = λ κs a. ap (λ (vs : List Val). sliceVal (a .0 .ptr) (length (a .0 .now)) ∷ vs) (h .same κs (a .1));
       }
