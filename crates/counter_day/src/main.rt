@@ -1,54 +1,56 @@
 // A counter's day over the drivers' layer: two checkout tasks (owners 1 and 2) and the modem (owner 3) borrow from one heap. Each call is printed with
-// its answer, `ok` and the value or `no` and document 01's number; `stdout` beside `src/` has what 01's rules give.
+// its answer, `ok` and the values or `no` and document 01's number. What 01's rules give stands in `stdout`, beside `src/`.
 use heap::Heap;
+use model::BlockSize;
 use model::Freed;
+use model::Holding;
 use model::Made;
 use model::Placed;
 use model::Plan;
+use model::Refusal;
 use model::Totals;
 
-fn wide(n: u32) -> u64 {
-    n as u64
-}
-
-fn print(n: u32) {
-    io::print_decimal(1, wide(n));
-}
-
-// Prints the rest of a line: a good answer and its value.
-fn print_ok(n: u32) {
-    io::write_all(1, b": ok ");
-    print(n);
-    io::write_all(1, b"\n");
-}
-
-// Prints the rest of a line: a refusal and its number.
-fn print_no(n: u32) {
-    io::write_all(1, b": no ");
-    print(n);
-    io::write_all(1, b"\n");
+fn print_value(name: &[u8], n: u32) {
+    io::write_all(1, name);
+    io::print_decimal(1, n as u64);
 }
 
 fn print_task(owner: u32) {
     if owner == 3 {
         io::write_all(1, b"modem");
     } else {
-        io::write_all(1, b"checkout ");
-        print(owner);
+        print_value(b"checkout ", owner);
     }
+}
+
+fn end_line() {
+    io::write_all(1, b"\n");
+}
+
+fn print_ok(n: u32) {
+    print_value(b": ok ", n);
+    end_line();
+}
+
+fn print_no(number: u32) {
+    print_value(b": no ", number);
+    end_line();
+}
+
+fn print_refusal(why: Refusal) {
+    print_no(model::number(why));
 }
 
 fn print_placed(placed: Placed) {
     match placed {
         Placed::At(offset) => print_ok(offset),
-        Placed::Refused(why) => print_no(model::number(why)),
+        Placed::Refused(why) => print_refusal(why),
     }
 }
 
 fn alloc(heap: Heap, table: &mut [u32; 68], owner: u32, size: u32) -> Heap {
     print_task(owner);
-    io::write_all(1, b" alloc ");
-    print(size);
+    print_value(b" alloc ", size);
     let out = driver::alloc_by_value(heap, table, owner, size);
     let placed = out.placed;
     print_placed(placed);
@@ -57,10 +59,8 @@ fn alloc(heap: Heap, table: &mut [u32; 68], owner: u32, size: u32) -> Heap {
 
 fn alloc_aligned(heap: Heap, table: &mut [u32; 68], owner: u32, size: u32, align: u32) -> Heap {
     print_task(owner);
-    io::write_all(1, b" alloc ");
-    print(size);
-    io::write_all(1, b" on ");
-    print(align);
+    print_value(b" alloc ", size);
+    print_value(b" on ", align);
     let out = driver::alloc_aligned_by_value(heap, table, owner, size, align);
     let placed = out.placed;
     print_placed(placed);
@@ -69,15 +69,62 @@ fn alloc_aligned(heap: Heap, table: &mut [u32; 68], owner: u32, size: u32, align
 
 fn free(heap: Heap, table: &mut [u32; 68], arena: &mut [u8; 512], owner: u32, offset: u32) -> Heap {
     print_task(owner);
-    io::write_all(1, b" free ");
-    print(offset);
+    print_value(b" free ", offset);
     let out = driver::free_by_value(heap, table, arena, owner, offset);
     let freed = out.freed;
     match freed {
         Freed::Bytes(bytes) => print_ok(bytes),
-        Freed::Refused(why) => print_no(model::number(why)),
+        Freed::Refused(why) => print_refusal(why),
     }
     out.heap
+}
+
+fn block_size(heap: Heap, table: &[u32; 68], owner: u32, offset: u32) {
+    print_task(owner);
+    print_value(b" size ", offset);
+    let size = driver::block_size_by_value(heap, table, owner, offset);
+    match size {
+        BlockSize::Bytes { requested, held } => {
+            print_value(b": ok requested ", requested);
+            print_value(b" held ", held);
+            end_line();
+        }
+        BlockSize::Refused(why) => print_refusal(why),
+    }
+}
+
+fn holding(heap: Heap, table: &[u32; 68], owner: u32) {
+    print_task(owner);
+    io::write_all(1, b" holding");
+    let holding = driver::holding_by_value(heap, table, owner);
+    match holding {
+        Holding::Of { blocks, bytes } => {
+            print_value(b": ok blocks ", blocks);
+            print_value(b" bytes ", bytes);
+            end_line();
+        }
+        Holding::Refused(why) => print_refusal(why),
+    }
+}
+
+fn totals(heap: Heap, table: &[u32; 68]) {
+    io::write_all(1, b"totals");
+    let totals = driver::totals_by_value(heap, table);
+    match totals {
+        Totals::Bytes {
+            used,
+            free,
+            peak,
+            longest,
+        } => {
+            print_value(b": ok used ", used);
+            print_value(b" free ", free);
+            print_value(b" peak ", peak);
+            print_value(b" longest ", longest);
+            end_line();
+        }
+        Totals::Refused(why) => print_refusal(why),
+    }
 }
 
 // The quotas: 10 granules and 3 blocks for each checkout task, 8 granules and 2 blocks for the modem.
@@ -96,11 +143,11 @@ fn open(table: &mut [u32; 68], arena: &mut [u8; 512]) -> Heap {
     out.heap
 }
 
+// The modem's boundary leaves two granules free, and the next block that fits goes there.
 fn morning(heap: Heap, table: &mut [u32; 68], arena: &mut [u8; 512]) -> Heap {
     let mut h = heap;
     h = alloc(h, table, 1, 40);
     h = alloc(h, table, 2, 100);
-    // granules 10 and 11 are skipped for the boundary, and the next block that fits goes there
     h = alloc_aligned(h, table, 3, 64, 64);
     h = alloc(h, table, 1, 17);
     h = alloc(h, table, 2, 64);
@@ -109,7 +156,7 @@ fn morning(heap: Heap, table: &mut [u32; 68], arena: &mut [u8; 512]) -> Heap {
     h
 }
 
-// A second free of one block: refused while its place is free, and while it is another's.
+// A second free of one block is refused while its place is free, and while it is another's.
 fn noon(heap: Heap, table: &mut [u32; 68], arena: &mut [u8; 512]) -> Heap {
     let mut h = heap;
     h = free(h, table, arena, 1, 0);
@@ -132,28 +179,14 @@ fn evening(heap: Heap, table: &mut [u32; 68], arena: &mut [u8; 512]) -> Heap {
     h
 }
 
-fn print_totals(heap: Heap, table: &[u32; 68]) {
-    io::write_all(1, b"totals");
-    let totals = heap::totals(heap, table);
-    match totals {
-        Totals::Bytes {
-            used,
-            free,
-            peak,
-            longest,
-        } => {
-            io::write_all(1, b": used ");
-            print(used);
-            io::write_all(1, b" free ");
-            print(free);
-            io::write_all(1, b" peak ");
-            print(peak);
-            io::write_all(1, b" longest ");
-            print(longest);
-            io::write_all(1, b"\n");
-        }
-        Totals::Refused(why) => print_no(model::number(why)),
-    }
+// What the three tasks hold adds up to what is used.
+fn closing(heap: Heap, table: &[u32; 68]) {
+    block_size(heap, table, 1, 160);
+    block_size(heap, table, 3, 160);
+    holding(heap, table, 1);
+    holding(heap, table, 2);
+    holding(heap, table, 3);
+    totals(heap, table);
 }
 
 fn main() {
@@ -163,5 +196,5 @@ fn main() {
     heap = morning(heap, &mut table, &mut arena);
     heap = noon(heap, &mut table, &mut arena);
     heap = evening(heap, &mut table, &mut arena);
-    print_totals(heap, &table);
+    closing(heap, &table);
 }
