@@ -1,6 +1,6 @@
 -- The heap's record and the core's answers, to the proofs of this layer: their machine values, and what is known of these.
 --     heapVal          the machine value of a heap
---     Answer           an answer, with what a walk asks of it.        choice       of any enum that owns only facts
+--     Answer           an answer, with what a walk asks of it.        enum-answer       of any enum that owns only facts
 --     Pair             what a mutating call of the core answers: a struct of an answer and the new heap, likewise.        struct       of any struct whose fields are these.        placed, freed     an allocation's and a free's
 -- Assumes `Given`.
 use mathlib.Core.Path.{_≡_, refl, _∙_, ap, subst}
@@ -21,7 +21,7 @@ use denote.Struct.Laws as LL
 use denote.Enum.Enum.{Few, Plainss}
 use denote.Enum.Declared.{Declared, variants, shape, row}
 use denote.Enum.Laws as EL
-use Rattle.driver.proofs.Passed.{Fits}
+use Rattle.driver.proofs.Locals.{Fits}
 use Rattle.heap.specs.declared.Heap.{Heap as Record}
 use Rattle.heap.proofs.Heap as T
 use Rattle.heap.proofs.Heap.Laws as T′
@@ -33,6 +33,12 @@ use Rattle.model.proofs.Placed as Placed
 use Rattle.model.proofs.Placed.Laws as Placed′
 use Rattle.model.proofs.Freed as Freed
 use Rattle.model.proofs.Freed.Laws as Freed′
+use Rattle.model.proofs.BlockSize as BlockSize
+use Rattle.model.proofs.BlockSize.Laws as BlockSize′
+use Rattle.model.proofs.Totals as Totals
+use Rattle.model.proofs.Totals.Laws as Totals′
+use Rattle.model.proofs.Holding as Holding
+use Rattle.model.proofs.Holding.Laws as Holding′
 
 abbrev pub heapVal : Record → Val
 heapVal = LL.val T.the-type T′.the-laws
@@ -72,8 +78,8 @@ module _ {M : Type 1} (𝓤 : URA M) (H : Heap 𝓤) (A : Atoms 𝓤) where
     pub joined : (p : answer .row .Denot) (h : Record) → Is (answer .row) p (answer .val p ∷ []) → Is T.the-row h (heapVals h) → Is row (pair p h) (pairVal (answer .val p) h ∷ [])
 
   module _ (W : Given 𝓤 H A) where
-    abbrev pub choice : (E : Declared) → EL.Laws E → Plainss (variants E) → Few (shape E) → Answer
-    choice E laws plain few = record {
+    abbrev pub enum-answer : (E : Declared) → EL.Laws E → Plainss (variants E) → Few (shape E) → Answer
+    enum-answer E laws plain few = record {
       row = row E;
       mir = lone (row E .mir);
       val = EL.val E laws;
@@ -85,11 +91,11 @@ module _ {M : Type 1} (𝓤 : URA M) (H : Heap 𝓤) (A : Atoms 𝓤) where
     abbrev AllAre : (S : Struct) → LL.Laws S → S .D → Type 0
     AllAre S laws r = AreAll (fields S) (S .to r) (valss (fields S) (LL.spells (S .parts) laws) (S .to r))
 
-    abbrev pub struct : (o : Answer) (S : Struct) (laws : LL.Laws S) → Plains (fields S) → (answer-of : S .D → o .row .Denot) (heap-of : S .D → Record) (pair : o .row .Denot → Record → S .D)
+    abbrev pub struct-pair : (o : Answer) (S : Struct) (laws : LL.Laws S) → Plains (fields S) → (answer-of : S .D → o .row .Denot) (heap-of : S .D → Record) (pair : o .row .Denot → Record → S .D)
         → ((r : S .D) → r ≡ pair (answer-of r) (heap-of r)) → ((p : o .row .Denot) (h : Record) → LL.val S laws (pair p h) ≡ pairVal (o .val p) h) → srow S .mir ≡ pairTy (S .name) (o .mir) ∷ []
         → ((r : S .D) → AllAre S laws r → Is (o .row) (answer-of r) (o .val (answer-of r) ∷ []) × Is T.the-row (heap-of r) (heapVals (heap-of r)))
         → ((p : o .row .Denot) (h : Record) → Is (o .row) p (o .val p ∷ []) → Is T.the-row h (heapVals h) → AllAre S laws (pair p h)) → Pair
-    struct o S laws plain answer-of heap-of pair eta vals mirs parts joined = record {
+    struct-pair o S laws plain answer-of heap-of pair eta vals mirs parts joined = record {
       answer = o;
       name = S .name;
       row = srow S;
@@ -105,10 +111,19 @@ module _ {M : Type 1} (𝓤 : URA M) (H : Heap 𝓤) (A : Atoms 𝓤) where
 
     abbrev pub placed : Pair
     placed =
-        struct (choice Placed.the-type Placed′.the-laws Placed′.the-plain tt) Allocated.the-type Allocated′.the-laws Allocated′.the-plain (λ r. r .placed) (λ r. r .heap) (λ p h. record { placed = p; heap = h })
+        struct-pair (enum-answer Placed.the-type Placed′.the-laws Placed′.the-plain tt) Allocated.the-type Allocated′.the-laws Allocated′.the-plain (λ r. r .placed) (λ r. r .heap) (λ p h. record { placed = p; heap = h })
         (λ r. refl) (λ p h. refl) refl (λ r all. (all .0, all .1 .0)) (λ p h is is′. (is, (is′, tt)))
 
     abbrev pub freed : Pair
     freed =
-        struct (choice Freed.the-type Freed′.the-laws Freed′.the-plain tt) Released.the-type Released′.the-laws Released′.the-plain (λ r. r .freed) (λ r. r .heap) (λ p h. record { freed = p; heap = h })
+        struct-pair (enum-answer Freed.the-type Freed′.the-laws Freed′.the-plain tt) Released.the-type Released′.the-laws Released′.the-plain (λ r. r .freed) (λ r. r .heap) (λ p h. record { freed = p; heap = h })
         (λ r. refl) (λ p h. refl) refl (λ r all. (all .0, all .1 .0)) (λ p h is is′. (is, (is′, tt)))
+
+    abbrev pub blockSize : Answer
+    blockSize = enum-answer BlockSize.the-type BlockSize′.the-laws BlockSize′.the-plain tt
+
+    abbrev pub totals : Answer
+    totals = enum-answer Totals.the-type Totals′.the-laws Totals′.the-plain tt
+
+    abbrev pub holding : Answer
+    holding = enum-answer Holding.the-type Holding′.the-laws Holding′.the-plain tt

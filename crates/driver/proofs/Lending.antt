@@ -41,10 +41,10 @@ use denote.Triple.Statement.{Contract, Triple}
 use denote.Triple.Call.{calls-from}
 use denote.Triple.Clauses.{Ended, Clauses, atExit, closing}
 use denote.Triple.Walked.{says}
-use Rattle.driver.proofs.Passed.{Fits, AllFit, Pass, locals-of, vals-of, given, lent, after, beyond, lends, operands, onto, past, past-lent, from-at, alloc-all, pass-all, free-all, lends-all, operands-all}
-use Rattle.driver.proofs.Handed.{Handing}
+use Rattle.driver.proofs.Locals.{Fits, AllFit, Pass, locals-of, vals-of, given, lent, after, beyond, lends, operands, onto, past, past-lent, from-at, alloc-all, pass-all, free-all, lends-all, operands-all}
+use Rattle.driver.proofs.Parameters.{Handing}
 use Rattle.driver.proofs.Answers.{heapVal, heapVals, pairTy, pairVal, Answer, Pair}
-use Rattle.driver.proofs.Meeting.{Takes, Asked, Says, Back, met-at}
+use Rattle.driver.proofs.Contracts.{Takes, Asked, Says, Back, met-at}
 use Rattle.driver.proofs.Thin.{param, later-on}
 use Rattle.heap.specs.declared.Heap.{Heap as Record}
 use Rattle.heap.proofs.Heap as T
@@ -289,7 +289,7 @@ module _ {M : Type 1} (𝓤 : URA M) (H : Heap 𝓤) (𝓜 : Model 𝓤 H) (𝓖
   abbrev W : Given 𝓤 H A
   W = givenOf 𝓤 H 𝓜 𝓖
 
-  module _ {n : ℕ} {ss : List (Slot n)} (h : Handing ss) (env : REnv) (key : Name) (f : Fn) (unfolded : Closed 𝓤 H (tables 𝓤 H 𝓜 𝓡 env .C) (tables 𝓤 H 𝓜 𝓡 env .Λ) key f) (k : Name) (r : Routine) (e : env k ≡ r) (thin : Contract 𝓤) (met : Triple 𝓤 (𝓡 .run r) thin) where
+  module _ {n : ℕ} {ss : List (Slot n)} (h : Handing ss) (env : REnv) (key : Name) (f : Fn) (unfolded : Closed 𝓤 H (tables 𝓤 H 𝓜 𝓡 env .C) (tables 𝓤 H 𝓜 𝓡 env .Λ) key f) {k : Name} {r : Routine} (e : env k ≡ r) {thin : Contract 𝓤} (met : Triple 𝓤 (𝓡 .run r) thin) where
     -- the signature: the heap by value, then the parameters ss
     abbrev ByValue : RattleType → Ended
     ByValue = Takes (plain-slot (λ _. T.the-row)) ss

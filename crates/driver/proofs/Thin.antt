@@ -1,4 +1,4 @@
--- Thin functions over the heap's record, behind a `&mut` and behind a `&`: each copies the record out and hands it to a function of the core, with whatever else it was passed (`Passed.antt`, `Handed.antt`).
+-- Thin functions over the heap's record, behind a `&mut` and behind a `&`: each copies the record out and hands it to a function of the core, with whatever else it was passed (`Locals.antt`, `Parameters.antt`).
 --     fn, walk             behind a `&mut`: the record in the core's answer is stored where the old one stood, and the rest of the answer is returned. The function, and the walk of its MIR.        fn-shr, walk-shr       behind a `&`: the core's answer is the function's own
 --     thin, thin-shr       what the function is held to, from what the core is. A walk has the machine values alone of what is handed on, and of the core only that it may be called; what is owned, the tokens and the contract's clauses go past it whole
 --     thin-met, thin-shr-met       the whole of it: a function with such a signature and such code meets its contract, if what the core's contract says is what the function's own says
@@ -39,9 +39,9 @@ use denote.Triple.Statement.{Contract, Triple}
 use denote.Triple.Call.{calls-from}
 use denote.Triple.Clauses.{Ended, Clauses, atExit, closing}
 use denote.Triple.Walked.{says}
-use Rattle.driver.proofs.Passed.{Fits, AllFit, Pass, locals-of, vals-of, given, lent, after, lends, operands, onto, past, from-at, alloc-all, pass-all, free-all, lends-all, operands-all}
-use Rattle.driver.proofs.Handed.{Handing}
-use Rattle.driver.proofs.Meeting.{Takes, Asked, Says, Back, met-at}
+use Rattle.driver.proofs.Locals.{Fits, AllFit, Pass, locals-of, vals-of, given, lent, after, lends, operands, onto, past, from-at, alloc-all, pass-all, free-all, lends-all, operands-all}
+use Rattle.driver.proofs.Parameters.{Handing}
+use Rattle.driver.proofs.Contracts.{Takes, Asked, Says, Back, met-at}
 use Rattle.driver.proofs.Answers.{heapVal, heapVals, pairTy, pairVal, Answer, Pair}
 use Rattle.heap.specs.declared.Heap.{Heap as Record}
 use Rattle.heap.proofs.Heap as T
@@ -268,7 +268,7 @@ module _ {M : Type 1} (𝓤 : URA M) (H : Heap 𝓤) (𝓜 : Model 𝓤 H) (𝓖
     abbrev Gives : (run : Fun 𝓤) (κs : Lfts (suc n)) → Shares (suc n) → Record → (a : Denots (typesAt ss κs)) (vss : Valss (typesAt ss κs)) → SProp 𝓤 → (R : RattleType) → (R .Denot → Ws κs a → SProp 𝓤) → Type 1
     Gives run κs qs r a vss Req R F = ent 𝓤 (Asked 𝓤 H A r (Tok κs qs) Req (owns (typesAt ss κs) a vss)) (run (heapVal r ∷ flat (typesAt ss κs) vss) (λ w. H .⇛ (ex 𝓤 (Back 𝓤 H A R (L κs a) (Tok κs qs) F w))))
 
-    module _ (env : REnv) (key : Name) (f : Fn) (unfolded : Closed 𝓤 H (tables 𝓤 H 𝓜 𝓡 env .C) (tables 𝓤 H 𝓜 𝓡 env .Λ) key f) (k : Name) (r : Routine) (e : env k ≡ r) (core : Contract 𝓤) (met : Triple 𝓤 (𝓡 .run r) core) where
+    module _ (env : REnv) (key : Name) (f : Fn) (unfolded : Closed 𝓤 H (tables 𝓤 H 𝓜 𝓡 env .C) (tables 𝓤 H 𝓜 𝓡 env .Λ) key f) {k : Name} {r : Routine} (e : env k ≡ r) {core : Contract 𝓤} (met : Triple 𝓤 (𝓡 .run r) core) where
       pub thin-met : (o : Pair 𝓤 H A) (c : Clauses 𝓤 (Behind (o .answer .row)))
           → ((κs : Lfts (suc n)) (a : Denots (typesAt ss κs)) → fn k (suc n) (h .passes κs a) (o .name) (o .answer .mir) ≡ f)
           → ((run : Fun 𝓤) → Triple 𝓤 run core → (κs : Lfts (suc n)) (qs : Shares (suc n)) (x : RefT Record) (a : Denots (typesAt ss κs)) (vss : Valss (typesAt ss κs)) (g : c κs (x, a) .ghost)

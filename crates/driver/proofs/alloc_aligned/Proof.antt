@@ -3,12 +3,9 @@
 use mathlib.Core.Path.{refl}
 use mir.Syntax.{w32}
 use contract.Running.{givenOf}
-use denote.Triple.Spec.{tripleOf}
-use Rattle.heap.proofs.alloc_aligned as core
-use Rattle.heap.proofs.alloc_aligned.Symbol as core-def
 use Rattle.heap.proofs.alloc_aligned.Met as core-thm
 use Rattle.driver.proofs.Answers.{heapVals, placed}
-use Rattle.driver.proofs.Handed.{lends, word, none}
+use Rattle.driver.proofs.Parameters.{mut-slice, uint, none}
 use Rattle.driver.proofs.Thin.{thin-met}
 use Rattle.driver.proofs.alloc_aligned as f
 use Rattle.driver.proofs.alloc_aligned.Key as key
@@ -18,7 +15,7 @@ use Rattle.driver.proofs.alloc_aligned.Code as code
 pub alloc-aligned-spec : {M : Type 1} → stated.statement M
 unfolding code.routine
 alloc-aligned-spec 𝓤 H 𝓜 𝓖 𝓡 =
-    thin-met 𝓤 H 𝓜 𝓖 𝓡 (lends 1 tt w32 (word (word (word none)))) code.env key.name code.function (code.unfolded 𝓤 H 𝓜 𝓡)
-    core-def.name core-def.routine code.calls-heap·alloc-aligned (tripleOf 𝓤 H (𝓖 .A) core.signature (core.spec 𝓤 H (𝓖 .A) (𝓜 .mem) (𝓡 .run))) (core-thm.met 𝓤 H 𝓜 𝓖 𝓡)
+    thin-met 𝓤 H 𝓜 𝓖 𝓡 (mut-slice 1 tt w32 (uint w32 (uint w32 (uint w32 none)))) code.env key.name code.function (code.unfolded 𝓤 H 𝓜 𝓡)
+    code.calls-heap·alloc-aligned (core-thm.met 𝓤 H 𝓜 𝓖 𝓡)
     (placed 𝓤 H (𝓖 .A) (givenOf 𝓤 H 𝓜 𝓖)) (f.clauses 𝓤 H (𝓖 .A) (𝓜 .mem) (𝓡 .run)) (λ κs a. refl)
     (λ run known κs qs x a vss g. known ((κs .1, qs .1, tt, (x .now, a), (heapVals (x .now), vss)), tt))

@@ -3,14 +3,9 @@
 use mathlib.Core.Path.{refl}
 use mir.Syntax.{w32}
 use contract.Running.{givenOf}
-use denote.Triple.Spec.{tripleOf}
-use Rattle.model.proofs.BlockSize as BlockSize
-use Rattle.model.proofs.BlockSize.Laws as BlockSize′
-use Rattle.heap.proofs.block_size as core
-use Rattle.heap.proofs.block_size.Symbol as core-def
 use Rattle.heap.proofs.block_size.Met as core-thm
-use Rattle.driver.proofs.Answers.{heapVals, choice}
-use Rattle.driver.proofs.Handed.{shows, word, none}
+use Rattle.driver.proofs.Answers.{heapVals, blockSize}
+use Rattle.driver.proofs.Parameters.{shr-slice, uint, none}
 use Rattle.driver.proofs.Thin.{thin-shr-met}
 use Rattle.driver.proofs.block_size as f
 use Rattle.driver.proofs.block_size.Key as key
@@ -20,7 +15,7 @@ use Rattle.driver.proofs.block_size.Code as code
 pub block-size-spec : {M : Type 1} → stated.statement M
 unfolding code.routine
 block-size-spec 𝓤 H 𝓜 𝓖 𝓡 =
-    thin-shr-met 𝓤 H 𝓜 𝓖 𝓡 (shows 1 tt w32 (word (word none))) code.env key.name code.function (code.unfolded 𝓤 H 𝓜 𝓡)
-    core-def.name core-def.routine code.calls-heap·block-size (tripleOf 𝓤 H (𝓖 .A) core.signature (core.spec 𝓤 H (𝓖 .A) (𝓜 .mem) (𝓡 .run))) (core-thm.met 𝓤 H 𝓜 𝓖 𝓡)
-    (choice 𝓤 H (𝓖 .A) (givenOf 𝓤 H 𝓜 𝓖) BlockSize.the-type BlockSize′.the-laws BlockSize′.the-plain tt) (f.clauses 𝓤 H (𝓖 .A) (𝓜 .mem) (𝓡 .run)) (λ κs a. refl)
+    thin-shr-met 𝓤 H 𝓜 𝓖 𝓡 (shr-slice 1 tt w32 (uint w32 (uint w32 none))) code.env key.name code.function (code.unfolded 𝓤 H 𝓜 𝓡)
+    code.calls-heap·block-size (core-thm.met 𝓤 H 𝓜 𝓖 𝓡)
+    (blockSize 𝓤 H (𝓖 .A) (givenOf 𝓤 H 𝓜 𝓖)) (f.clauses 𝓤 H (𝓖 .A) (𝓜 .mem) (𝓡 .run)) (λ κs a. refl)
     (λ run known κs qs x a vss g. known ((κs .1, qs .1, tt, (x .now, a), (heapVals (x .now), vss)), tt))

@@ -3,12 +3,9 @@
 use mathlib.Core.Path.{refl}
 use mir.Syntax.{w8, w32}
 use contract.Running.{givenOf}
-use denote.Triple.Spec.{tripleOf}
-use Rattle.heap.proofs.free as core
-use Rattle.heap.proofs.free.Symbol as core-def
 use Rattle.heap.proofs.free.Met as core-thm
 use Rattle.driver.proofs.Answers.{heapVals, freed}
-use Rattle.driver.proofs.Handed.{lends, word, none}
+use Rattle.driver.proofs.Parameters.{mut-slice, uint, none}
 use Rattle.driver.proofs.Thin.{thin-met}
 use Rattle.driver.proofs.free as f
 use Rattle.driver.proofs.free.Key as key
@@ -18,7 +15,7 @@ use Rattle.driver.proofs.free.Code as code
 pub free-spec : {M : Type 1} → stated.statement M
 unfolding code.routine
 free-spec 𝓤 H 𝓜 𝓖 𝓡 =
-    thin-met 𝓤 H 𝓜 𝓖 𝓡 (lends 1 tt w32 (lends 2 tt w8 (word (word none)))) code.env key.name code.function (code.unfolded 𝓤 H 𝓜 𝓡)
-    core-def.name core-def.routine code.calls-heap·free (tripleOf 𝓤 H (𝓖 .A) core.signature (core.spec 𝓤 H (𝓖 .A) (𝓜 .mem) (𝓡 .run))) (core-thm.met 𝓤 H 𝓜 𝓖 𝓡)
+    thin-met 𝓤 H 𝓜 𝓖 𝓡 (mut-slice 1 tt w32 (mut-slice 2 tt w8 (uint w32 (uint w32 none)))) code.env key.name code.function (code.unfolded 𝓤 H 𝓜 𝓡)
+    code.calls-heap·free (core-thm.met 𝓤 H 𝓜 𝓖 𝓡)
     (freed 𝓤 H (𝓖 .A) (givenOf 𝓤 H 𝓜 𝓖)) (f.clauses 𝓤 H (𝓖 .A) (𝓜 .mem) (𝓡 .run)) (λ κs a. refl)
     (λ run known κs qs x a vss g. known ((κs .1, qs .1, tt, (x .now, a), (heapVals (x .now), vss)), tt))

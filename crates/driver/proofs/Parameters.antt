@@ -1,12 +1,12 @@
 -- The parameters that a thin function hands on as they came, in a signature: what a proof of such a function asks of them, for any list of slots, and how a list is put together.
 --     Handing ss       of the slots ss: their machine values as functions of their denotations (`spells`, `tells`), what the walk hands on (`passes`, `fits`), and that these are the same values (`same`)
---     word, lends, shows, none         a u32, a `&'j mut [T]` and a `&'j [T]` of whole numbers before the rest, and the list's end
+--     uint, shr-slice, mut-slice, none         an unsigned whole number, a `&'j [T]` and a `&'j mut [T]` of such numbers before the rest, and the list's end
 -- Assumes nothing.
 use mathlib.Core.Path.{_≡_, refl, ap}
 use Prim.Native.Nat.{ℕ}
 use mathlib.Core.List.{[], _∷_, List}
 use lib.ListN.{length}
-use mir.Syntax.{Ty, Width, tyRef, tyInt, named, imm, w32}
+use mir.Syntax.{Ty, Width, tyRef, tyInt, named, imm, w8, w16, w32, w64, w128}
 use mir.Val.{Val, vint}
 use contract.Lifetimes.{Lfts, Within, lftAt}
 use denote.RattleType.{RattleType, Denots, flat}
@@ -14,7 +14,15 @@ use denote.Laws.{Is, Ises, Are, Spells, valss, Tells, Tellss}
 use denote.Plain.{UInt, uint-tells}
 use denote.Slice.{sliceTy, sliceVal, slice-vals, ShrSlice, mut-slice-tells, shr-slice-tells}
 use denote.Signature.{Slot, typesAt, plain as plain-slot, mutSlice, shrSlice}
-use Rattle.driver.proofs.Passed.{Fits, AllFit, Pass, plain, slice, vals-of, given}
+use Rattle.driver.proofs.Locals.{Fits, AllFit, Pass, plain, slice, vals-of, given}
+
+-- a whole number may be stored at its type
+pub uint-fits : (w : Width) (n : ℕ) → Is (UInt w) n (vint w n ∷ []) → Fits (tyInt w) (vint w n)
+uint-fits w8 n is = (tt, record { fits = is .1 })
+uint-fits w16 n is = (tt, record { fits = is .1 })
+uint-fits w32 n is = (tt, record { fits = is .1 })
+uint-fits w64 n is = (tt, record { fits = is .1 })
+uint-fits w128 n is = (tt, record { fits = is .1 })
 
 module _ {n : ℕ} where
   pub record Handing (ss : List (Slot n)) : Type 2 where
@@ -38,18 +46,18 @@ module _ {n : ℕ} where
       same = λ κs a. ap (λ (vs : List Val). val κs (a .0) ∷ vs) (h .same κs (a .1));
     }
 
-    abbrev pub word : Handing ss → Handing (plain-slot (λ _. UInt w32) ∷ ss)
-    word = passed (λ _. UInt w32) (tyInt w32) (λ κs n. vint w32 n) (λ κs. uint-tells w32) (λ κs n is. (tt, record { fits = is .1 }))
+    abbrev pub uint : (w : Width) → Handing ss → Handing (plain-slot (λ _. UInt w) ∷ ss)
+    uint w = passed (λ _. UInt w) (tyInt w) (λ κs n. vint w n) (λ κs. uint-tells w) (λ κs n is. uint-fits w n is)
 
     module _ (j : ℕ) (ok : Within n j) (w : Width) where
-      abbrev pub shows : Handing ss → Handing (shrSlice j ok (λ _. UInt w) ∷ ss)
-      shows =
+      abbrev pub shr-slice : Handing ss → Handing (shrSlice j ok (λ _. UInt w) ∷ ss)
+      shr-slice =
           passed (λ κs. ShrSlice (named j) (lftAt n j ok κs) (UInt w)) (sliceTy (tyRef (named j) imm (tyInt w))) (λ κs x. sliceVal (x .ptr) (length (x .now)))
           (λ κs. shr-slice-tells (named j) (lftAt n j ok κs) (UInt w)) (λ κs x is. (tt, (tt, (record { fits = is .0 .1 .0 }, tt))))
 
       -- lent on, through temporaries
-      abbrev pub lends : Handing ss → Handing (mutSlice j ok (λ _. UInt w) ∷ ss)
-      lends h = record {
+      abbrev pub mut-slice : Handing ss → Handing (mutSlice j ok (λ _. UInt w) ∷ ss)
+      mut-slice h = record {
         spells = λ κs. (slice-vals, h .spells κs);
         tells = λ κs. (mut-slice-tells (named j) (lftAt n j ok κs) (UInt w), h .tells κs);
         passes = λ κs a. slice (named j) (tyInt w) (a .0 .ptr .0) (a .0 .ptr .1) (length (a .0 .now)) ∷ h .passes κs (a .1);

@@ -30,8 +30,8 @@ use denote.Triple.Spec.{tripleOf}
 use denote.Triple.Statement.{Contract, Triple}
 use denote.Triple.Table.{entered, cited}
 use denote.Triple.Clauses.{Ended, Clauses, closing}
-use Rattle.driver.proofs.Passed.{AllFit, given}
-use Rattle.driver.proofs.Handed.{Handing}
+use Rattle.driver.proofs.Locals.{AllFit, given}
+use Rattle.driver.proofs.Parameters.{Handing}
 use Rattle.driver.proofs.Answers.{heapVals}
 use Rattle.heap.specs.declared.Heap.{Heap as Record}
 use Rattle.heap.proofs.Heap as T
