@@ -1,7 +1,7 @@
 -- The heap's record and the core's answers, to the proofs of this layer: their machine values, and what is known of these.
 --     heapVal          the machine value of a heap
---     Answer           an answer, with what a walk asks of it.        enum-answer       of any enum that owns only facts
---     Pair             what a mutating call of the core answers: a struct of an answer and the new heap, likewise.        struct       of any struct whose fields are these.        placed, freed     an allocation's and a free's
+--     Answer           an answer, with what a walk asks of it.        enum-answer       of any enum that owns only facts.        block-size, totals, holding       the enquiries'
+--     Pair             what a mutating call of the core answers: a struct of an answer and the new heap, likewise.        struct-pair       of any struct whose fields are these.        placed, freed     an allocation's and a free's
 -- Assumes `Given`.
 use mathlib.Core.Path.{_≡_, refl, _∙_, ap, subst}
 use mathlib.Core.List.{[], _∷_, List}
@@ -54,7 +54,7 @@ abbrev pub pairVal : Val → Record → Val
 pairVal v h = vstruct (vcons v (vcons (heapVal h) vnil))
 
 module _ {M : Type 1} (𝓤 : URA M) (H : Heap 𝓤) (A : Atoms 𝓤) where
-  -- its machine value is the one, may be stored, and what it owns is had for nothing
+  -- the machine value of r is `val r` and may be stored at the type `mir`, and what r owns can be made from nothing
   pub record Answer : Type 2 where
     pub row : RattleType
     pub mir : Ty
@@ -119,8 +119,8 @@ module _ {M : Type 1} (𝓤 : URA M) (H : Heap 𝓤) (A : Atoms 𝓤) where
         struct-pair (enum-answer Freed.the-type Freed′.the-laws Freed′.the-plain tt) Released.the-type Released′.the-laws Released′.the-plain (λ r. r .freed) (λ r. r .heap) (λ p h. record { freed = p; heap = h })
         (λ r. refl) (λ p h. refl) refl (λ r all. (all .0, all .1 .0)) (λ p h is is′. (is, (is′, tt)))
 
-    abbrev pub blockSize : Answer
-    blockSize = enum-answer BlockSize.the-type BlockSize′.the-laws BlockSize′.the-plain tt
+    abbrev pub block-size : Answer
+    block-size = enum-answer BlockSize.the-type BlockSize′.the-laws BlockSize′.the-plain tt
 
     abbrev pub totals : Answer
     totals = enum-answer Totals.the-type Totals′.the-laws Totals′.the-plain tt

@@ -39,20 +39,13 @@ use denote.Triple.Statement.{Contract, Triple}
 use denote.Triple.Call.{calls-from}
 use denote.Triple.Clauses.{Ended, Clauses, atExit, closing}
 use denote.Triple.Walked.{says}
-use Rattle.driver.proofs.Locals.{Fits, AllFit, Pass, locals-of, vals-of, given, lent, after, lends, operands, onto, past, from-at, alloc-all, pass-all, free-all, lends-all, operands-all}
+use Rattle.driver.proofs.Locals.{Fits, AllFit, Pass, locals-of, vals-of, given, lent, after, param, past-params, lends, operands, onto, past, from-at, alloc-all, pass-all, free-all, lends-all, operands-all}
 use Rattle.driver.proofs.Parameters.{Handing}
-use Rattle.driver.proofs.Contracts.{Takes, Asked, Says, Back, met-at}
+use Rattle.driver.proofs.Contracts.{Takes, heap-own, heap-last, no-last, Asked, Ensured, Back, met-at}
 use Rattle.driver.proofs.Answers.{heapVal, heapVals, pairTy, pairVal, Answer, Pair}
 use Rattle.heap.specs.declared.Heap.{Heap as Record}
 use Rattle.heap.proofs.Heap as T
 use Rattle.heap.proofs.Heap.Laws as T′
-
--- the local of the parameter j, and the one that stands j after the parameters
-abbrev pub param : ℕ → ℕ
-param j = suc (suc j)
-
-abbrev pub later-on : List Pass → ℕ → ℕ
-later-on ps j = suc (suc (after ps j))
 
 -- ---- the functions: each hands ps on to the core's function k
 module _ (k : Name) (ls : ℕ) (ps : List Pass) where
@@ -62,11 +55,11 @@ module _ (k : Name) (ls : ℕ) (ps : List Pass) where
     outlives = [];
     params = suc (after ps 0);
     locals = local τ valueLocal ∷ local (tyRef (named 0) mut (pointee (T.the-row .written))) valueLocal ∷ locals-of (given ps) (local (pairTy ν τ) valueLocal ∷ local T′.mir valueLocal ∷ locals-of (lent ps) []);
-    body = seq (assign (place (later-on ps 1) []) (rvOpd (copy (place 1 (deref T′.mir ∷ [])))))
-        (lends param (λ j. later-on ps (suc (suc j))) ps
-        (seq (call k (copy (place (later-on ps 1) []) ∷ operands param (λ j. later-on ps (suc (suc j))) ps) (place (later-on ps 0) []))
-        (seq (assign (place 1 (deref T′.mir ∷ [])) (rvOpd (copy (place (later-on ps 0) (field 1 ∷ [])))))
-        (seq (assign (place 0 []) (rvOpd (copy (place (later-on ps 0) (field 0 ∷ []))))) return))));
+    body = seq (assign (place (past-params ps 1) []) (rvOpd (copy (place 1 (deref T′.mir ∷ [])))))
+        (lends param (λ j. past-params ps (suc (suc j))) ps
+        (seq (call k (copy (place (past-params ps 1) []) ∷ operands param (λ j. past-params ps (suc (suc j))) ps) (place (past-params ps 0) []))
+        (seq (assign (place 1 (deref T′.mir ∷ [])) (rvOpd (copy (place (past-params ps 0) (field 1 ∷ [])))))
+        (seq (assign (place 0 []) (rvOpd (copy (place (past-params ps 0) (field 0 ∷ []))))) return))));
   }
 
   abbrev pub fn-shr : Ty → Fn
@@ -75,8 +68,8 @@ module _ (k : Name) (ls : ℕ) (ps : List Pass) where
     outlives = [];
     params = suc (after ps 0);
     locals = local τ valueLocal ∷ local (tyRef (named 0) imm (pointee (T.the-row .written))) valueLocal ∷ locals-of (given ps) (local T′.mir valueLocal ∷ locals-of (lent ps) []);
-    body = seq (assign (place (later-on ps 0) []) (rvOpd (copy (place 1 (deref T′.mir ∷ [])))))
-        (lends param (λ j. later-on ps (suc j)) ps (seq (call k (copy (place (later-on ps 0) []) ∷ operands param (λ j. later-on ps (suc j)) ps) (place 0 [])) return));
+    body = seq (assign (place (past-params ps 0) []) (rvOpd (copy (place 1 (deref T′.mir ∷ [])))))
+        (lends param (λ j. past-params ps (suc j)) ps (seq (call k (copy (place (past-params ps 0) []) ∷ operands param (λ j. past-params ps (suc j)) ps) (place 0 [])) return));
   }
 
 module _ {M : Type 1} (𝓤 : URA M) (H : Heap 𝓤) (A : Atoms 𝓤) (W : Given 𝓤 H A) where
@@ -103,10 +96,10 @@ module _ {M : Type 1} (𝓤 : URA M) (H : Heap 𝓤) (A : Atoms 𝓤) (W : Given
           move ! (1 ∷ []) $ facts ! T.the-row (Is T.the-row) (shows 𝓤 H A T.the-row) (x .now) (heapVals (x .now)) (λ g.
           -- [the heap's cell; the open borrow; obs; auth; the parameters; room for the temporaries; room for the copy; …; room for the answer; …; _1; …; room for _0; …; the rest]
           assigns ! (of-opd ! (load ! (from ! (hop ! (look ! 10 refl) (stop !))) (look-raw ! 0 refl))) (from-at ! (past 𝓤 H ps bs E₁ 1) (stop !)) (init ! 6 refl (LL.lawful T.the-type T′.the-laws 𝓤 H A W .typed (x .now) _ g .0)) $
-          move ! (4 ∷ 5 ∷ []) $ lends-all ! E₁ [] ps bs ts param (λ j. later-on ps (suc (suc j))) (λ j. refl) (λ j. past 𝓤 H ps bs E₁ (suc (suc j))) fits (
+          move ! (4 ∷ 5 ∷ []) $ lends-all ! E₁ [] ps bs ts param (λ j. past-params ps (suc (suc j))) (λ j. refl) (λ j. past 𝓤 H ps bs E₁ (suc (suc j))) fits (
           -- the call
           move ! (14 ∷ []) $ calls-from ! fm (raw Rest) (heapVal (x .now) ∷ vals-of (given ps)) Q (calls g) (and-then ! (load ! (from-at ! (past 𝓤 H ps bs E₁ 1) (stop !)) (look ! 7 refl))
-          (operands-all ! E₁ [] ps bs ts param (λ j. later-on ps (suc (suc j))) (λ j. refl) (λ j. past 𝓤 H ps bs E₁ (suc (suc j))) (λ _ _ _ _ p. look-in ! 1 p) (λ _ _ _ _ p. look-in ! 2 p))) (λ w.
+          (operands-all ! E₁ [] ps bs ts param (λ j. past-params ps (suc (suc j))) (λ j. refl) (λ j. past 𝓤 H ps bs E₁ (suc (suc j))) (λ _ _ _ _ p. look-in ! 1 p) (λ _ _ _ _ p. look-in ! 2 p))) (λ w.
           use1 W (later (some (λ (r : Out). raw (After r) ⊛ raw (fact 𝓤 (Parts w (ans r) (new r)))))) (told w) $ await ! tt $ pick ! (λ r. split ! $ move ! (1 ∷ []) $ heard ! (Parts w (ans r) (new r)) (λ e.
           -- [what comes after; the parameters; the temporaries; the heap's cell; the open borrow; obs; auth; the copy; …; room for the answer; …; _1; …; room for _0; …]
           land ! (from-at ! (past 𝓤 H ps bs E₁ 0) (stop !)) (init ! 9 refl (e .1)) $ rewrite ! 9 (λ (u : Val). ‵ (fat fullShare (pairTy ν τ) lₒ 0 u)) (e .0) refl $
@@ -136,10 +129,10 @@ module _ {M : Type 1} (𝓤 : URA M) (H : Heap 𝓤) (A : Atoms 𝓤) (W : Given
           -- [a share of the heap's cell; what it owns; what shuts it; the fractured borrow; res; the parameters; room for the temporaries; room for the copy; …; _1; …; room for _0; …; the rest]
           assigns ! (of-opd ! (load ! (from ! (hop ! (look ! 9 refl) (stop !))) (look-raw ! 0 refl))) (from-at ! (past 𝓤 H ps bs E₁ 0) (stop !)) (init ! 7 refl (LL.lawful T.the-type T′.the-laws 𝓤 H A W .typed (x .now) _ g .0)) $
           shuts ! tt T.the-row q′ (x .now) (heapVals (x .now)) (x .ptr .0) (x .ptr .1) $
-          move ! (3 ∷ 4 ∷ []) $ lends-all ! E₁ [] ps bs ts param (λ j. later-on ps (suc j)) (λ j. refl) (λ j. past 𝓤 H ps bs E₁ (suc j)) fits (
+          move ! (3 ∷ 4 ∷ []) $ lends-all ! E₁ [] ps bs ts param (λ j. past-params ps (suc j)) (λ j. refl) (λ j. past 𝓤 H ps bs E₁ (suc j)) fits (
           -- the call
           move ! (11 ∷ []) $ calls-from ! fm (raw Rest) (heapVal (x .now) ∷ vals-of (given ps)) Q (calls g) (and-then ! (load ! (from-at ! (past 𝓤 H ps bs E₁ 0) (stop !)) (look ! 6 refl))
-          (operands-all ! E₁ [] ps bs ts param (λ j. later-on ps (suc j)) (λ j. refl) (λ j. past 𝓤 H ps bs E₁ (suc j)) (λ _ _ _ _ p. look-in ! 1 p) (λ _ _ _ _ p. look-in ! 2 p))) (λ w.
+          (operands-all ! E₁ [] ps bs ts param (λ j. past-params ps (suc j)) (λ j. refl) (λ j. past 𝓤 H ps bs E₁ (suc j)) (λ _ _ _ _ p. look-in ! 1 p) (λ _ _ _ _ p. look-in ! 2 p))) (λ w.
           use1 W (later (raw (After w) ⊛ raw (fact 𝓤 (Fits τ w)))) (told w) $ await ! tt $ split ! $ move ! (1 ∷ []) $ heard ! (Fits τ w) (λ e.
           -- [what comes after; the parameters; the temporaries; the token; the fractured borrow; res; the copy; …; _1; …; room for _0; …]
           land ! (from ! (stop !)) (init ! 10 refl e) $ returns ! (look ! 10 refl) $ forget ! 6 refl $ forget ! 8 refl $ forget ! 10 refl $ move ! (10 ∷ 11 ∷ []) $ free1 ! $ move ! (8 ∷ 9 ∷ []) $ free1 ! $
@@ -151,10 +144,10 @@ module _ {M : Type 1} (𝓤 : URA M) (H : Heap 𝓤) (A : Atoms 𝓤) (W : Given
       abbrev Rest : SProp 𝓤
       Rest = sep 𝓤 (sep 𝓤 Tok (sem 𝓤 H A Own)) Req
 
-      asks : Is T.the-row (x .now) (heapVals (x .now)) → ent 𝓤 Rest (Asked 𝓤 H A (x .now) Tok Req Own)
+      asks : Is T.the-row (x .now) (heapVals (x .now)) → ent 𝓤 Rest (Asked 𝓤 H A Tok (heap-own (x .now)) Own Req)
       asks is = qed W ((raw Tok ⊛ ‵ Own) ∷ raw Req ∷ []) ∵ split ! $ move ! (1 ∷ []) $ owned ! T.the-row (Is T.the-row) (LL.makes T.the-type T′.the-plain 𝓤 H A) (x .now) (heapVals (x .now)) is $ fjoin ! $ move ! (1 ∷ 0 ∷ []) $ join ! $ done !
 
-      apart : (Ref : Fml) {G : SProp 𝓤} → ent 𝓤 (⋆ 𝓤 H A (‵ (flft κ q) ∷ ‵ Ref ∷ raw Rest ∷ [])) G → ent 𝓤 (sep 𝓤 (sep 𝓤 (sep 𝓤 (A .lft κ q) Tok) (sem 𝓤 H A (fsep Ref Own))) Req) G
+      apart : (Ref : Fml) {G : SProp 𝓤} → ent 𝓤 (⋆ 𝓤 H A (‵ (flft κ q) ∷ ‵ Ref ∷ raw Rest ∷ [])) G → ent 𝓤 (Asked 𝓤 H A (sep 𝓤 (A .lft κ q) Tok) Ref Own Req) G
       apart Ref k = qed W (((‵ (flft κ q) ⊛ raw Tok) ⊛ ‵ (fsep Ref Own)) ∷ raw Req ∷ []) ∵ split ! $ split ! $ move ! (2 ∷ []) $ fsplit ! $ move ! (3 ∷ 1 ∷ []) $ join ! $ move ! (0 ∷ 3 ∷ []) $ join ! $ move ! (2 ∷ 1 ∷ 0 ∷ []) $ by ! k
 
       -- what is shown of the code and the values as the walk has them is shown of f and vs
@@ -162,8 +155,8 @@ module _ {M : Type 1} (𝓤 : URA M) (H : Heap 𝓤) (A : Atoms 𝓤) (W : Given
       as-stated f′ e Post {G} k = subst (λ (c : Fn). ent 𝓤 G (WpFn 𝓤 H C Λ c (only (ptr-vals x) ∷ vs) Post)) e (subst (λ (us : List Val). ent 𝓤 G (WpFn 𝓤 H C Λ f′ (only (ptr-vals x) ∷ us) Post)) same k)
 
       -- and the core is called with vs
-      as-called : (Q : Val → SProp 𝓤) → ent 𝓤 (Asked 𝓤 H A (x .now) Tok Req Own) (C k (heapVal (x .now) ∷ vs) Q) → Is T.the-row (x .now) (heapVals (x .now)) → ent 𝓤 Rest (C k (heapVal (x .now) ∷ vals-of (given ps)) Q)
-      as-called Q known is = via 𝓤 (Asked 𝓤 H A (x .now) Tok Req Own) (asks is) (subst (λ (us : List Val). ent 𝓤 (Asked 𝓤 H A (x .now) Tok Req Own) (C k (heapVal (x .now) ∷ us) Q)) (sym same) known)
+      as-called : (Q : Val → SProp 𝓤) → ent 𝓤 (Asked 𝓤 H A Tok (heap-own (x .now)) Own Req) (C k (heapVal (x .now) ∷ vs) Q) → Is T.the-row (x .now) (heapVals (x .now)) → ent 𝓤 Rest (C k (heapVal (x .now) ∷ vals-of (given ps)) Q)
+      as-called Q known is = via 𝓤 (Asked 𝓤 H A Tok (heap-own (x .now)) Own Req) (asks is) (subst (λ (us : List Val). ent 𝓤 (Asked 𝓤 H A Tok (heap-own (x .now)) Own Req) (C k (heapVal (x .now) ∷ us) Q)) (sym same) known)
 
       -- behind a `&mut`. F is what is ensured, of the answer, of the new heap and of the other last values
       module _ (o : Pair 𝓤 H A) (F : o .answer .row .Denot → Record → Ws → SProp 𝓤) where
@@ -182,61 +175,62 @@ module _ {M : Type 1} (𝓤 : URA M) (H : Heap 𝓤) (A : Atoms 𝓤) (W : Given
         abbrev new : R .Denot → Record
         new = o .heap-of
 
-        abbrev pub Told : R .Denot → Ws → SProp 𝓤
-        Told r ws = F (o .answer-of r) (new r) ws
+        -- what the core gives back, and what the function does
+        abbrev Told : R .Denot → Unit {0} → Ws → SProp 𝓤
+        Told r _ ws = F (o .answer-of r) (new r) ws
 
-        abbrev Ends : P .Denot → Record × Ws → SProp 𝓤
-        Ends r ws = sep 𝓤 (sem 𝓤 H A (fsep (fres (x .name) (T.the-row .coded .code (ws .0))) (L (ws .1)))) (F r (ws .0) (ws .1))
+        abbrev Given-back : Val → SProp 𝓤
+        Given-back w = H .⇛ (ex 𝓤 (Back 𝓤 H A R no-last L Tok Told w))
 
         abbrev End : Val → P .Denot → SProp 𝓤
-        End v r = sep 𝓤 (sep 𝓤 (sep 𝓤 (A .lft κ q) Tok) (sem 𝓤 H A (P .own r (v ∷ [])))) (ex 𝓤 (Ends r))
+        End = Back 𝓤 H A P (heap-last (x .name)) L (sep 𝓤 (A .lft κ q) Tok) F
 
         abbrev After : R .Denot → SProp 𝓤
-        After r = sep 𝓤 (sep 𝓤 Tok (ex 𝓤 (Says 𝓤 H A L (Told r)))) (fact 𝓤 (Is P (o .answer-of r) (val r ∷ [])))
+        After r = sep 𝓤 (sep 𝓤 Tok (ex 𝓤 (Ensured 𝓤 H A no-last L (Told r)))) (fact 𝓤 (Is P (o .answer-of r) (val r ∷ [])))
 
         known-parts : (r : R .Denot) (w : Val) → Is R r (w ∷ []) → Parts (o .name) τ w (val r) (new r)
         known-parts r w is = (o .tells r w is, o .fits r w is, o .answer .fits (o .answer-of r) (val r) (o .parts r w is .0), o .parts r w is .1)
 
-        told : (w : Val) → ent 𝓤 (H .⇛ (ex 𝓤 (Back 𝓤 H A R L Tok Told w))) (H .⇛ (ex 𝓤 (λ (r : R .Denot). sep 𝓤 (After r) (fact 𝓤 (Parts (o .name) τ w (val r) (new r))))))
+        told : (w : Val) → ent 𝓤 (Given-back w) (H .⇛ (ex 𝓤 (λ (r : R .Denot). sep 𝓤 (After r) (fact 𝓤 (Parts (o .name) τ w (val r) (new r))))))
         told w =
-            qed W (later (some (λ (r : R .Denot). (raw Tok ⊛ ‵ (R .own r (w ∷ []))) ⊛ raw (ex 𝓤 (Says 𝓤 H A L (Told r))))) ∷ []) ∵ updating ! $ await ! tt $ pick ! (λ r. split ! $ split ! $
+            qed W (later (some (λ (r : R .Denot). (raw Tok ⊛ ‵ (R .own r (w ∷ []))) ⊛ raw (ex 𝓤 (Ensured 𝓤 H A no-last L (Told r))))) ∷ []) ∵ updating ! $ await ! tt $ pick ! (λ r. split ! $ split ! $
             move ! (1 ∷ []) $ facts ! R (Is R) (shows 𝓤 H A R) r (w ∷ []) (λ is. at-once ! $
             show ! (λ (r′ : R .Denot). sep 𝓤 (After r′) (fact 𝓤 (Parts (o .name) τ w (val r′) (new r′)))) r $ says ! (known-parts r w is) $ says ! (o .parts r w is .0) $ done !))
 
         ends : (r : R .Denot) → ent 𝓤 (⋆ 𝓤 H A (‵ (fobs (x .name) (T.the-row .coded .code (new r))) ∷ ‵ (fbor κ (Body (mem T.the-row) (x .ptr .0) (x .ptr .1) (x .name))) ∷ ‵ (flft κ q) ∷ raw (After r) ∷ [])) (H .⇛ (ex 𝓤 (End (val r))))
         ends r =
             qed W (‵ (fobs (x .name) (T.the-row .coded .code (new r))) ∷ ‵ (fbor κ (Body (mem T.the-row) (x .ptr .0) (x .ptr .1) (x .name))) ∷ ‵ (flft κ q)
-            ∷ ((raw Tok ⊛ some (λ (ws : Unit {0} × Ws). ‵ (fsep ftrue (L (ws .1))) ⊛ raw (Told r (ws .1)))) ⊛ raw (fact 𝓤 (Is P (o .answer-of r) (val r ∷ [])))) ∷ []) ∵ updating ! $ at-once ! $
+            ∷ ((raw Tok ⊛ some (λ (ws : Unit {0} × Ws). ‵ (fsep ftrue (L (ws .1))) ⊛ raw (Told r tt (ws .1)))) ⊛ raw (fact 𝓤 (Is P (o .answer-of r) (val r ∷ [])))) ∷ []) ∵ updating ! $ at-once ! $
             move ! (3 ∷ []) $ split ! $ move ! (1 ∷ []) $ heard ! (Is P (o .answer-of r) (val r ∷ [])) (λ is. split ! $ move ! (1 ∷ []) $ pick ! (λ ws. split ! $ fsplit ! $ drop ! $
             -- [the last values; what the core ensures; Tok; obs; the borrow; the token]
             move ! (3 ∷ []) $ use1 W (‵ (fres (x .name) (T.the-row .coded .code (new r)))) (W .names .obs-res (x .name) (T.the-row .coded .code (new r))) $ show ! (End (val r)) (o .answer-of r) $
-            keep ! (5 ∷ 3 ∷ 0 ∷ 1 ∷ 2 ∷ []) $ join ! $ owned ! P (Is P) (o .answer .makes) (o .answer-of r) (val r ∷ []) is $ move ! (1 ∷ 0 ∷ []) $ join ! $ frame ! $ fjoin ! $ show ! (Ends (o .answer-of r)) (new r, ws .1) $ done !))
+            keep ! (5 ∷ 3 ∷ 0 ∷ 1 ∷ 2 ∷ []) $ join ! $ owned ! P (Is P) (o .answer .makes) (o .answer-of r) (val r ∷ []) is $ move ! (1 ∷ 0 ∷ []) $ join ! $ frame ! $ fjoin ! $ show ! (Ensured 𝓤 H A (heap-last (x .name)) L (F (o .answer-of r))) (new r, ws .1) $ done !))
 
-        pub thin : fn k ls ps (o .name) τ ≡ f → ent 𝓤 (Asked 𝓤 H A (x .now) Tok Req Own) (C k (heapVal (x .now) ∷ vs) (λ w. H .⇛ (ex 𝓤 (Back 𝓤 H A R L Tok Told w))))
-            → ent 𝓤 (sep 𝓤 (sep 𝓤 (sep 𝓤 (A .lft κ q) Tok) (sem 𝓤 H A (fsep (MutRef (named 0) κ T.the-row .own x (ptr-vals x)) Own))) Req) (WpFn 𝓤 H C Λ f (only (ptr-vals x) ∷ vs) (λ v. H .⇛ (ex 𝓤 (End v))))
+        pub thin : fn k ls ps (o .name) τ ≡ f → ent 𝓤 (Asked 𝓤 H A Tok (heap-own (x .now)) Own Req) (C k (heapVal (x .now) ∷ vs) Given-back)
+            → ent 𝓤 (Asked 𝓤 H A (sep 𝓤 (A .lft κ q) Tok) (MutRef (named 0) κ T.the-row .own x (ptr-vals x)) Own Req) (WpFn 𝓤 H C Λ f (only (ptr-vals x) ∷ vs) (λ v. H .⇛ (ex 𝓤 (End v))))
         thin e known =
             as-stated (fn k ls ps (o .name) τ) e (λ v. H .⇛ (ex 𝓤 (End v))) (apart (MutRef (named 0) κ T.the-row .own x (ptr-vals x))
-            (walk (o .name) τ fm fits κ q x Rest (λ w. H .⇛ (ex 𝓤 (Back 𝓤 H A R L Tok Told w))) (R .Denot) val new After (λ v. H .⇛ (ex 𝓤 (End v))) (as-called (λ w. H .⇛ (ex 𝓤 (Back 𝓤 H A R L Tok Told w))) known) told ends))
+            (walk (o .name) τ fm fits κ q x Rest Given-back (R .Denot) val new After (λ v. H .⇛ (ex 𝓤 (End v))) (as-called Given-back known) told ends))
 
       -- behind a `&`
-      module _ (o : Answer 𝓤 H A) (F : o .row .Denot → Ws → SProp 𝓤) where
-        told-shr : (w : Val) → ent 𝓤 (H .⇛ (ex 𝓤 (Back 𝓤 H A (o .row) L Tok F w))) (H .⇛ (sep 𝓤 (ex 𝓤 (Back 𝓤 H A (o .row) L Tok F w)) (fact 𝓤 (Fits (o .mir) w))))
+      module _ (o : Answer 𝓤 H A) (F : o .row .Denot → Unit {0} → Ws → SProp 𝓤) where
+        told-shr : (w : Val) → ent 𝓤 (H .⇛ (ex 𝓤 (Back 𝓤 H A (o .row) no-last L Tok F w))) (H .⇛ (sep 𝓤 (ex 𝓤 (Back 𝓤 H A (o .row) no-last L Tok F w)) (fact 𝓤 (Fits (o .mir) w))))
         told-shr w =
-            qed W (later (some (λ (r : o .row .Denot). (raw Tok ⊛ ‵ (o .row .own r (w ∷ []))) ⊛ raw (ex 𝓤 (Says 𝓤 H A L (F r))))) ∷ []) ∵ updating ! $ await ! tt $ pick ! (λ r. split ! $ split ! $
-            move ! (1 ∷ []) $ peeks ! (o .row) (Is (o .row)) (shows 𝓤 H A (o .row)) r (w ∷ []) (λ is. at-once ! $ says ! (o .fits r w is) $ show ! (Back 𝓤 H A (o .row) L Tok F w) r $ move ! (1 ∷ 0 ∷ []) $ join ! $ done !))
+            qed W (later (some (λ (r : o .row .Denot). (raw Tok ⊛ ‵ (o .row .own r (w ∷ []))) ⊛ raw (ex 𝓤 (Ensured 𝓤 H A no-last L (F r))))) ∷ []) ∵ updating ! $ await ! tt $ pick ! (λ r. split ! $ split ! $
+            move ! (1 ∷ []) $ peeks ! (o .row) (Is (o .row)) (shows 𝓤 H A (o .row)) r (w ∷ []) (λ is. at-once ! $ says ! (o .fits r w is) $ show ! (Back 𝓤 H A (o .row) no-last L Tok F w) r $ move ! (1 ∷ 0 ∷ []) $ join ! $ done !))
 
-        ends-shr : (w : Val) → ent 𝓤 (⋆ 𝓤 H A (‵ (flft κ q) ∷ raw (ex 𝓤 (Back 𝓤 H A (o .row) L Tok F w)) ∷ [])) (H .⇛ (ex 𝓤 (Back 𝓤 H A (o .row) L (sep 𝓤 (A .lft κ q) Tok) F w)))
+        ends-shr : (w : Val) → ent 𝓤 (⋆ 𝓤 H A (‵ (flft κ q) ∷ raw (ex 𝓤 (Back 𝓤 H A (o .row) no-last L Tok F w)) ∷ [])) (H .⇛ (ex 𝓤 (Back 𝓤 H A (o .row) no-last L (sep 𝓤 (A .lft κ q) Tok) F w)))
         ends-shr w =
-            qed W (‵ (flft κ q) ∷ some (λ (r : o .row .Denot). (raw Tok ⊛ ‵ (o .row .own r (w ∷ []))) ⊛ raw (ex 𝓤 (Says 𝓤 H A L (F r)))) ∷ []) ∵ updating ! $ at-once ! $
+            qed W (‵ (flft κ q) ∷ some (λ (r : o .row .Denot). (raw Tok ⊛ ‵ (o .row .own r (w ∷ []))) ⊛ raw (ex 𝓤 (Ensured 𝓤 H A no-last L (F r)))) ∷ []) ∵ updating ! $ at-once ! $
             move ! (1 ∷ []) $ pick ! (λ r. split ! $ split ! $
             -- [Tok; the result; what the core ensures; the token]
-            show ! (Back 𝓤 H A (o .row) L (sep 𝓤 (A .lft κ q) Tok) F w) r $ move ! (3 ∷ 0 ∷ []) $ join ! $ move ! (0 ∷ 1 ∷ []) $ join ! $ done !)
+            show ! (Back 𝓤 H A (o .row) no-last L (sep 𝓤 (A .lft κ q) Tok) F w) r $ move ! (3 ∷ 0 ∷ []) $ join ! $ move ! (0 ∷ 1 ∷ []) $ join ! $ done !)
 
-        pub thin-shr : fn-shr k ls ps (o .mir) ≡ f → ent 𝓤 (Asked 𝓤 H A (x .now) Tok Req Own) (C k (heapVal (x .now) ∷ vs) (λ w. H .⇛ (ex 𝓤 (Back 𝓤 H A (o .row) L Tok F w))))
-            → ent 𝓤 (sep 𝓤 (sep 𝓤 (sep 𝓤 (A .lft κ q) Tok) (sem 𝓤 H A (fsep (ShrRef (named 0) κ T.the-row .own x (ptr-vals x)) Own))) Req) (WpFn 𝓤 H C Λ f (only (ptr-vals x) ∷ vs) (λ w. H .⇛ (ex 𝓤 (Back 𝓤 H A (o .row) L (sep 𝓤 (A .lft κ q) Tok) F w))))
+        pub thin-shr : fn-shr k ls ps (o .mir) ≡ f → ent 𝓤 (Asked 𝓤 H A Tok (heap-own (x .now)) Own Req) (C k (heapVal (x .now) ∷ vs) (λ w. H .⇛ (ex 𝓤 (Back 𝓤 H A (o .row) no-last L Tok F w))))
+            → ent 𝓤 (Asked 𝓤 H A (sep 𝓤 (A .lft κ q) Tok) (ShrRef (named 0) κ T.the-row .own x (ptr-vals x)) Own Req) (WpFn 𝓤 H C Λ f (only (ptr-vals x) ∷ vs) (λ w. H .⇛ (ex 𝓤 (Back 𝓤 H A (o .row) no-last L (sep 𝓤 (A .lft κ q) Tok) F w))))
         thin-shr e known =
-            as-stated (fn-shr k ls ps (o .mir)) e (λ w. H .⇛ (ex 𝓤 (Back 𝓤 H A (o .row) L (sep 𝓤 (A .lft κ q) Tok) F w))) (apart (ShrRef (named 0) κ T.the-row .own x (ptr-vals x))
-            (walk-shr (o .mir) fm fits κ q x Rest (λ w. H .⇛ (ex 𝓤 (Back 𝓤 H A (o .row) L Tok F w))) (λ w. ex 𝓤 (Back 𝓤 H A (o .row) L Tok F w)) (λ w. H .⇛ (ex 𝓤 (Back 𝓤 H A (o .row) L (sep 𝓤 (A .lft κ q) Tok) F w))) (as-called (λ w. H .⇛ (ex 𝓤 (Back 𝓤 H A (o .row) L Tok F w))) known) told-shr ends-shr))
+            as-stated (fn-shr k ls ps (o .mir)) e (λ w. H .⇛ (ex 𝓤 (Back 𝓤 H A (o .row) no-last L (sep 𝓤 (A .lft κ q) Tok) F w))) (apart (ShrRef (named 0) κ T.the-row .own x (ptr-vals x))
+            (walk-shr (o .mir) fm fits κ q x Rest (λ w. H .⇛ (ex 𝓤 (Back 𝓤 H A (o .row) no-last L Tok F w))) (λ w. ex 𝓤 (Back 𝓤 H A (o .row) no-last L Tok F w)) (λ w. H .⇛ (ex 𝓤 (Back 𝓤 H A (o .row) no-last L (sep 𝓤 (A .lft κ q) Tok) F w))) (as-called (λ w. H .⇛ (ex 𝓤 (Back 𝓤 H A (o .row) no-last L Tok F w))) known) told-shr ends-shr))
 
 -- ---- a function of the layer, whole. f is its code, and k the core's function, which meets the contract core
 module _ {M : Type 1} (𝓤 : URA M) (H : Heap 𝓤) (𝓜 : Model 𝓤 H) (𝓖 : GhostRules 𝓤 H) (𝓡 : Running 𝓤 H 𝓜) where
@@ -264,15 +258,15 @@ module _ {M : Type 1} (𝓤 : URA M) (H : Heap 𝓤) (𝓜 : Model 𝓤 H) (𝓖
     abbrev L : (κs : Lfts (suc n)) (a : Denots (typesAt ss κs)) → Ws κs a → Fml
     L κs = lastsOf κs ss (all yes ss)
 
-    -- run, asked at the heap r and these parameters for what requires Req, gives an R of which F is ensured
-    abbrev Gives : (run : Fun 𝓤) (κs : Lfts (suc n)) → Shares (suc n) → Record → (a : Denots (typesAt ss κs)) (vss : Valss (typesAt ss κs)) → SProp 𝓤 → (R : RattleType) → (R .Denot → Ws κs a → SProp 𝓤) → Type 1
-    Gives run κs qs r a vss Req R F = ent 𝓤 (Asked 𝓤 H A r (Tok κs qs) Req (owns (typesAt ss κs) a vss)) (run (heapVal r ∷ flat (typesAt ss κs) vss) (λ w. H .⇛ (ex 𝓤 (Back 𝓤 H A R (L κs a) (Tok κs qs) F w))))
+    -- run, asked with the heap r and these parameters, gives back an R of which F is ensured. Req is what is required of a caller
+    abbrev Gives : (run : Fun 𝓤) (κs : Lfts (suc n)) → Shares (suc n) → Record → (a : Denots (typesAt ss κs)) (vss : Valss (typesAt ss κs)) → SProp 𝓤 → (R : RattleType) → (R .Denot → Unit {0} → Ws κs a → SProp 𝓤) → Type 1
+    Gives run κs qs r a vss Req R F = ent 𝓤 (Asked 𝓤 H A (Tok κs qs) (heap-own r) (owns (typesAt ss κs) a vss) Req) (run (heapVal r ∷ flat (typesAt ss κs) vss) (λ w. H .⇛ (ex 𝓤 (Back 𝓤 H A R no-last (L κs a) (Tok κs qs) F w))))
 
     module _ (env : REnv) (key : Name) (f : Fn) (unfolded : Closed 𝓤 H (tables 𝓤 H 𝓜 𝓡 env .C) (tables 𝓤 H 𝓜 𝓡 env .Λ) key f) {k : Name} {r : Routine} (e : env k ≡ r) {core : Contract 𝓤} (met : Triple 𝓤 (𝓡 .run r) core) where
       pub thin-met : (o : Pair 𝓤 H A) (c : Clauses 𝓤 (Behind (o .answer .row)))
           → ((κs : Lfts (suc n)) (a : Denots (typesAt ss κs)) → fn k (suc n) (h .passes κs a) (o .name) (o .answer .mir) ≡ f)
           → ((run : Fun 𝓤) → Triple 𝓤 run core → (κs : Lfts (suc n)) (qs : Shares (suc n)) (x : RefT Record) (a : Denots (typesAt ss κs)) (vss : Valss (typesAt ss κs)) (g : c κs (x, a) .ghost)
-          → Gives run κs qs (x .now) a vss (c κs (x, a) .requires g) (o .row) (λ r ws. c κs (x, a) .ensures g (o .answer-of r) (atExit (Behind (o .answer .row)) κs (x, a) (o .heap-of r, ws))))
+          → Gives run κs qs (x .now) a vss (c κs (x, a) .requires g) (o .row) (λ r _ ws. c κs (x, a) .ensures g (o .answer-of r) (atExit (Behind (o .answer .row)) κs (x, a) (o .heap-of r, ws))))
           → Triple 𝓤 (𝓡 .run (env key)) (tripleOf 𝓤 H A (Behind (o .answer .row) .signature) (closing 𝓤 H A (Behind (o .answer .row)) c))
       thin-met o c is-thin gives =
           met-at 𝓤 H 𝓜 𝓖 𝓡 h env key f unfolded k r e core met (mutRef 0 tt (λ _. T.the-row)) (o .answer .row) c (λ κs. ptr-vals) (λ κs. mut-tells (named 0) (κs .0) T.the-row) (λ 𝓣 known κs qs x a g is fits.
@@ -283,10 +277,10 @@ module _ {M : Type 1} (𝓤 : URA M) (H : Heap 𝓤) (𝓜 : Model 𝓤 H) (𝓖
       pub thin-shr-met : (o : Answer 𝓤 H A) (c : Clauses 𝓤 (BehindShr (o .row)))
           → ((κs : Lfts (suc n)) (a : Denots (typesAt ss κs)) → fn-shr k (suc n) (h .passes κs a) (o .mir) ≡ f)
           → ((run : Fun 𝓤) → Triple 𝓤 run core → (κs : Lfts (suc n)) (qs : Shares (suc n)) (x : RefT Record) (a : Denots (typesAt ss κs)) (vss : Valss (typesAt ss κs)) (g : c κs (x, a) .ghost)
-          → Gives run κs qs (x .now) a vss (c κs (x, a) .requires g) (o .row) (λ r ws. c κs (x, a) .ensures g r (atExit (BehindShr (o .row)) κs (x, a) (tt, ws))))
+          → Gives run κs qs (x .now) a vss (c κs (x, a) .requires g) (o .row) (λ r _ ws. c κs (x, a) .ensures g r (atExit (BehindShr (o .row)) κs (x, a) (tt, ws))))
           → Triple 𝓤 (𝓡 .run (env key)) (tripleOf 𝓤 H A (BehindShr (o .row) .signature) (closing 𝓤 H A (BehindShr (o .row)) c))
       thin-shr-met o c is-thin gives =
           met-at 𝓤 H 𝓜 𝓖 𝓡 h env key f unfolded k r e core met (shrRef 0 tt (λ _. T.the-row)) (o .row) c (λ κs. ptr-vals) (λ κs. shr-tells (named 0) (κs .0) T.the-row) (λ 𝓣 known κs qs x a g is fits.
           let vss : Valss (typesAt ss κs) = valss (typesAt ss κs) (h .spells κs) a in
           thin-shr 𝓤 H A W (𝓣 .C) (𝓣 .Λ) k (suc n) (h .passes κs a) f (flat (typesAt ss κs) vss) (h .same κs a) fits (fmOf 𝓤 H (W .laws) 𝓣) (κs .0) (qs .0) x (Tok κs qs) (c κs (x, a) .requires g) (owns (typesAt ss κs) a vss) (Ws κs a) (L κs a)
-          o (λ p ws. c κs (x, a) .ensures g p (atExit (BehindShr (o .row)) κs (x, a) (tt, ws))) (is-thin κs a) (gives (𝓣 .C k) known κs qs x a vss g))
+          o (λ p _ ws. c κs (x, a) .ensures g p (atExit (BehindShr (o .row)) κs (x, a) (tt, ws))) (is-thin κs a) (gives (𝓣 .C k) known κs qs x a vss g))

@@ -1,5 +1,5 @@
-// The drivers' layer: the heap's record is lent, and updated where it stands. Each call is the one of `heap` with the same name: what it answers, and
-// what it leaves of the words and bytes that it is lent, is what that one does. Making is not here: there is no record to lend yet.
+// The drivers' layer: the heap's record is lent, and updated where it stands. Each call does what the one of `heap` with the same name does: the same
+// answer, and the same record, words and bytes afterwards. Making is not here, since there is no record yet to lend.
 ghost use Rattle.heap.specs.Promises.{AllocDone, FreeDone, BlockSizeDone, TotalsDone, HoldingDone};
 use heap::Allocated;
 use heap::Heap;
@@ -64,7 +64,7 @@ pub fn holding(heap: &Heap, table: &[u32], owner: u32) -> Holding
     heap::holding(*heap, table, owner)
 }
 
-// The mutating calls above for a caller that keeps the record itself: each lends its own copy and answers it beside the answer.
+// The calls above for a caller that keeps the record itself: each lends its own copy, and a mutating one answers it beside the answer.
 
 pub fn alloc_by_value(heap: Heap, table: &mut [u32], owner: u32, size: u32) -> Allocated
     ensures { λ r. ⌜ AllocDone heap (now (table .entry)) owner size 16 r (now (table .exit)) ⌝ }

@@ -4,7 +4,7 @@ use mathlib.Core.Path.{refl}
 use mir.Syntax.{w32}
 use contract.Running.{givenOf}
 use Rattle.heap.proofs.block_size.Met as core-thm
-use Rattle.driver.proofs.Answers.{heapVals, blockSize}
+use Rattle.driver.proofs.Answers.{heapVals, block-size}
 use Rattle.driver.proofs.Parameters.{shr-slice, uint, none}
 use Rattle.driver.proofs.Thin.{thin-shr-met}
 use Rattle.driver.proofs.block_size as f
@@ -17,5 +17,5 @@ unfolding code.routine
 block-size-spec 𝓤 H 𝓜 𝓖 𝓡 =
     thin-shr-met 𝓤 H 𝓜 𝓖 𝓡 (shr-slice 1 tt w32 (uint w32 (uint w32 none))) code.env key.name code.function (code.unfolded 𝓤 H 𝓜 𝓡)
     code.calls-heap·block-size (core-thm.met 𝓤 H 𝓜 𝓖 𝓡)
-    (blockSize 𝓤 H (𝓖 .A) (givenOf 𝓤 H 𝓜 𝓖)) (f.clauses 𝓤 H (𝓖 .A) (𝓜 .mem) (𝓡 .run)) (λ κs a. refl)
+    (block-size 𝓤 H (𝓖 .A) (givenOf 𝓤 H 𝓜 𝓖)) (f.clauses 𝓤 H (𝓖 .A) (𝓜 .mem) (𝓡 .run)) (λ κs a. refl)
     (λ run known κs qs x a vss g. known ((κs .1, qs .1, tt, (x .now, a), (heapVals (x .now), vss)), tt))

@@ -7,7 +7,7 @@ use mir.Syntax.{w32}
 use mir.Val.{vptr}
 use contract.Running.{givenOf}
 use Rattle.driver.proofs.block_size.Met as thin-thm
-use Rattle.driver.proofs.Answers.{blockSize}
+use Rattle.driver.proofs.Answers.{block-size}
 use Rattle.driver.proofs.Parameters.{shr-slice, uint, none}
 use Rattle.driver.proofs.Lending.{loan, lend-shr-met}
 use Rattle.driver.proofs.block_size_by_value as f
@@ -20,5 +20,5 @@ unfolding code.routine
 block-size-by-value-spec 𝓤 H 𝓜 𝓖 𝓡 =
     lend-shr-met 𝓤 H 𝓜 𝓖 𝓡 (shr-slice 0 tt w32 (uint w32 (uint w32 none))) code.env key.name code.function (code.unfolded 𝓤 H 𝓜 𝓡)
     code.calls-driver·block-size (thin-thm.met 𝓤 H 𝓜 𝓖 𝓡)
-    (blockSize 𝓤 H (𝓖 .A) (givenOf 𝓤 H 𝓜 𝓖)) (f.clauses 𝓤 H (𝓖 .A) (𝓜 .mem) (𝓡 .run)) (λ κs a. refl)
+    (block-size 𝓤 H (𝓖 .A) (givenOf 𝓤 H 𝓜 𝓖)) (f.clauses 𝓤 H (𝓖 .A) (𝓜 .mem) (𝓡 .run)) (λ κs a. refl)
     (λ run known κs qs r a vss g α γ b. known (((α ∷ [], κs), (fullShare, qs), tt, (loan b γ r, a), (vptr b 0 ∷ [], vss)), tt))
