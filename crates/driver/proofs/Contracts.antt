@@ -54,7 +54,7 @@ module _ {M : Type 1} (𝓤 : URA M) (H : Heap 𝓤) (A : Atoms 𝓤) where
   abbrev pub Asked : SProp 𝓤 → (First Own : Fml) → SProp 𝓤 → SProp 𝓤
   Asked Tok First Own Req = sep 𝓤 (sep 𝓤 Tok (sem 𝓤 H A (fsep First Own))) Req
 
-  -- last values, of which K says what is said of the first parameter's and L what is said of the others', and of which F is ensured
+  -- last values ws, with what is said of the first parameter's (K) and of the others' (L), and what is ensured of them (F)
   abbrev pub Ensured : {X Ws : Type 0} → (X → Fml) → (Ws → Fml) → (X → Ws → SProp 𝓤) → X × Ws → SProp 𝓤
   Ensured K L F ws = sep 𝓤 (sem 𝓤 H A (fsep (K (ws .0)) (L (ws .1)))) (F (ws .0) (ws .1))
 

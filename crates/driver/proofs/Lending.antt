@@ -295,6 +295,7 @@ module _ {M : Type 1} (𝓤 : URA M) (H : Heap 𝓤) (𝓜 : Model 𝓤 H) (𝓖
     abbrev L : (κs : Lfts n) (a : Denots (typesAt ss κs)) → Ws κs a → Fml
     L κs = lastsOf κs ss (all yes ss)
 
+    -- if f is the code of a function that lends its copy, and the thin function, as f calls it, gives what the function's own contract ensures, then the function meets that
     pub lend-met : (o : Pair 𝓤 H A) (c : Clauses 𝓤 (ByValue (o .row)))
         → ((κs : Lfts n) (a : Denots (typesAt ss κs)) → fn-lend k n (h .passes κs a) (o .name) (o .answer .mir) ≡ f)
         → ((run : Fun 𝓤) → Triple 𝓤 run thin → (κs : Lfts n) (qs : Shares n) (r : Record) (a : Denots (typesAt ss κs)) (vss : Valss (typesAt ss κs)) (g : c κs (r, a) .ghost) (α : ℕ) (γ : GName) (b : ℕ)

@@ -262,6 +262,7 @@ module _ {M : Type 1} (𝓤 : URA M) (H : Heap 𝓤) (𝓜 : Model 𝓤 H) (𝓖
     abbrev Gives : (run : Fun 𝓤) (κs : Lfts (suc n)) → Shares (suc n) → Record → (a : Denots (typesAt ss κs)) (vss : Valss (typesAt ss κs)) → SProp 𝓤 → (R : RattleType) → (R .Denot → Unit {0} → Ws κs a → SProp 𝓤) → Type 1
     Gives run κs qs r a vss Req R F = ent 𝓤 (Asked 𝓤 H A (Tok κs qs) (heap-own r) (owns (typesAt ss κs) a vss) Req) (run (heapVal r ∷ flat (typesAt ss κs) vss) (λ w. H .⇛ (ex 𝓤 (Back 𝓤 H A R no-last (L κs a) (Tok κs qs) F w))))
 
+    -- if f is a thin function's code, and the core, as f calls it, gives what the function's own contract ensures, then the function meets that
     module _ (env : REnv) (key : Name) (f : Fn) (unfolded : Closed 𝓤 H (tables 𝓤 H 𝓜 𝓡 env .C) (tables 𝓤 H 𝓜 𝓡 env .Λ) key f) {k : Name} {r : Routine} (e : env k ≡ r) {core : Contract 𝓤} (met : Triple 𝓤 (𝓡 .run r) core) where
       pub thin-met : (o : Pair 𝓤 H A) (c : Clauses 𝓤 (Behind (o .answer .row)))
           → ((κs : Lfts (suc n)) (a : Denots (typesAt ss κs)) → fn k (suc n) (h .passes κs a) (o .name) (o .answer .mir) ≡ f)
