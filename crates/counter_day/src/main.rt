@@ -127,9 +127,10 @@ fn totals(heap: Heap, table: &[u32; 68]) {
     }
 }
 
-// The quotas: 10 granules and 3 blocks for each checkout task, 8 granules and 2 blocks for the modem.
-fn open(table: &mut [u32; 68], arena: &mut [u8; 512]) -> Heap {
-    io::write_all(1, b"open 512 bytes 17 rows");
+// 17 rows of 4 words. A making answers no value: the 512 that is printed is the arena's length. The quotas are 10 granules and 3 blocks for each checkout
+// task, 8 granules and 2 blocks for the modem.
+fn init(table: &mut [u32; 68], arena: &mut [u8; 512]) -> Heap {
+    io::write_all(1, b"init 512 bytes 17 rows");
     let plan = Plan {
         granule_quotas: [10, 10, 8, 0, 0, 0, 0, 0],
         block_quotas: [3, 3, 2, 0, 0, 0, 0, 0],
@@ -166,6 +167,7 @@ fn noon(heap: Heap, table: &mut [u32; 68], arena: &mut [u8; 512]) -> Heap {
     h
 }
 
+// The block quota, an alignment with no place left, a hole too short, and an offset inside a block.
 fn evening(heap: Heap, table: &mut [u32; 68], arena: &mut [u8; 512]) -> Heap {
     let mut h = heap;
     h = alloc(h, table, 1, 33);
@@ -192,7 +194,7 @@ fn closing(heap: Heap, table: &[u32; 68]) {
 fn main() {
     let mut table = [0u32; 68];
     let mut arena = [0u8; 512];
-    let mut heap = open(&mut table, &mut arena);
+    let mut heap = init(&mut table, &mut arena);
     heap = morning(heap, &mut table, &mut arena);
     heap = noon(heap, &mut table, &mut arena);
     heap = evening(heap, &mut table, &mut arena);

@@ -1,5 +1,5 @@
 -- The heap's record and the core's answers, to the proofs of this layer: their machine values, and what is known of these.
---     heapVal          the machine value of a heap
+--     heapVal, heapVals       the machine value of a heap.        pairTy, pairVal       the MIR type and the machine value of a struct of an answer and a heap
 --     Answer           an answer, with what a walk asks of it.        enum-answer       of any enum that owns only facts.        block-size, totals, holding       the enquiries'
 --     Pair             what a mutating call of the core answers: a struct of an answer and the new heap, likewise.        struct-pair       of any struct whose fields are these.        placed, freed     an allocation's and a free's
 -- Assumes `Given`.
@@ -63,7 +63,7 @@ module _ {M : Type 1} (𝓤 : URA M) (H : Heap 𝓤) (A : Atoms 𝓤) where
     pub fits : (r : row .Denot) (w : Val) → Is row r (w ∷ []) → Fits mir w
     pub makes : Makes 𝓤 H A row (Is row)
 
-  -- the same of the struct, which comes apart and is put together
+  -- the same of a struct of an answer and a heap, with its parts and how they are joined
   pub record Pair : Type 2 where
     pub answer : Answer
     pub name : Sym

@@ -39,13 +39,15 @@ use Rattle.heap.proofs.Heap as T
 abbrev pub Takes : {n : ℕ} → Slot n → List (Slot n) → RattleType → Ended
 Takes {n} s ss R = record { signature = record { lifetimes = n; outlives = []; params = s ∷ ss; result = plain-slot (λ _. R) }; kept = (yes, all yes ss) }
 
--- what a heap owns; what is said of its last value behind a `&mut` under the name γ; and where it has none, since it cannot change
+-- what a heap owns
 abbrev pub heap-own : Record → Fml
 heap-own h = T.the-row .own h (heapVals h)
 
+-- what is said of its last value behind a `&mut` under the name γ
 abbrev pub heap-last : GName → Record → Fml
 heap-last γ h = fres γ (T.the-row .coded .code h)
 
+-- and nothing, where there is no last value
 abbrev pub no-last : Unit {0} → Fml
 no-last _ = ftrue
 

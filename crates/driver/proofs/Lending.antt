@@ -41,7 +41,7 @@ use denote.Triple.Statement.{Contract, Triple}
 use denote.Triple.Call.{calls-from}
 use denote.Triple.Clauses.{Ended, Clauses, atExit, closing}
 use denote.Triple.Walked.{says}
-use Rattle.driver.proofs.Locals.{Fits, AllFit, Pass, locals-of, vals-of, given, lent, after, beyond, param, past-params, lends, operands, onto, past, past-lent, from-at, alloc-all, pass-all, free-all, lends-all, operands-all}
+use Rattle.driver.proofs.Locals.{Fits, AllFit, Pass, locals-of, vals-of, given, lent, after-params, after-temps, param, local-after-params, lends, operands, onto, spot-after-params, spot-after-temps, from-at, alloc-all, pass-all, free-all, lends-all, operands-all}
 use Rattle.driver.proofs.Parameters.{Handing}
 use Rattle.driver.proofs.Answers.{heapVal, heapVals, pairTy, pairVal, Answer, Pair}
 use Rattle.driver.proofs.Contracts.{Takes, heap-own, heap-last, no-last, Asked, Ensured, Back, met-at}
@@ -55,7 +55,7 @@ loan b γ h = record { ptr = (b, 0); name = γ; now = h }
 
 -- the local that stands j after the heap's, the answer's and the reference's
 abbrev temp : List Pass → ℕ → ℕ
-temp ps j = past-params ps (suc (suc (suc j)))
+temp ps j = local-after-params ps (suc (suc (suc j)))
 
 -- what the reference owns, by `&mut` and by `&`, for the lifetime α
 abbrev pub lent-own : ℕ → GName → ℕ → Record → Fml
@@ -74,25 +74,25 @@ module _ (k : Name) (ls : ℕ) (ps : List Pass) where
   fn-lend ν τ = record {
     lifetimes = ls;
     outlives = [];
-    params = suc (after ps 0);
+    params = suc (after-params ps 0);
     locals = local (pairTy ν τ) valueLocal ∷ local T′.mir valueLocal ∷ locals-of (given ps) (local T′.mir memorySlot ∷ local τ valueLocal ∷ local (tyRef erased mut (pointee (T.the-row .written))) valueLocal ∷ locals-of (lent ps) (local T′.mir valueLocal ∷ []));
-    body = seq (assign (place (past-params ps 0) []) (rvOpd (copy (place 1 []))))
-        (seq (assign (place (past-params ps 2) []) (addrOf (place (past-params ps 0) [])))
+    body = seq (assign (place (local-after-params ps 0) []) (rvOpd (copy (place 1 []))))
+        (seq (assign (place (local-after-params ps 2) []) (addrOf (place (local-after-params ps 0) [])))
         (lends param (temp ps) ps
-        (seq (call k (copy (place (past-params ps 2) []) ∷ operands param (temp ps) ps) (place (past-params ps 1) []))
-        (seq (assign (place (temp ps (beyond ps 0)) []) (rvOpd (copy (place (past-params ps 0) []))))
-        (seq (assign (place 0 []) (aggregate (copy (place (past-params ps 1) []) ∷ copy (place (temp ps (beyond ps 0)) []) ∷ []))) return)))));
+        (seq (call k (copy (place (local-after-params ps 2) []) ∷ operands param (temp ps) ps) (place (local-after-params ps 1) []))
+        (seq (assign (place (temp ps (after-temps ps 0)) []) (rvOpd (copy (place (local-after-params ps 0) []))))
+        (seq (assign (place 0 []) (aggregate (copy (place (local-after-params ps 1) []) ∷ copy (place (temp ps (after-temps ps 0)) []) ∷ []))) return)))));
   }
 
   abbrev pub fn-lend-shr : Ty → Fn
   fn-lend-shr τ = record {
     lifetimes = ls;
     outlives = [];
-    params = suc (after ps 0);
+    params = suc (after-params ps 0);
     locals = local τ valueLocal ∷ local T′.mir valueLocal ∷ locals-of (given ps) (local T′.mir memorySlot ∷ local (tyRef erased imm (pointee (T.the-row .written))) valueLocal ∷ locals-of (lent ps) []);
-    body = seq (assign (place (past-params ps 0) []) (rvOpd (copy (place 1 []))))
-        (seq (assign (place (past-params ps 1) []) (addrOf (place (past-params ps 0) [])))
-        (lends param (λ j. past-params ps (suc (suc j))) ps (seq (call k (copy (place (past-params ps 1) []) ∷ operands param (λ j. past-params ps (suc (suc j))) ps) (place 0 [])) return)));
+    body = seq (assign (place (local-after-params ps 0) []) (rvOpd (copy (place 1 []))))
+        (seq (assign (place (local-after-params ps 1) []) (addrOf (place (local-after-params ps 0) [])))
+        (lends param (λ j. local-after-params ps (suc (suc j))) ps (seq (call k (copy (place (local-after-params ps 1) []) ∷ operands param (λ j. local-after-params ps (suc (suc j))) ps) (place 0 [])) return)));
   }
 
 module _ {M : Type 1} (𝓤 : URA M) (H : Heap 𝓤) (A : Atoms 𝓤) (W : Given 𝓤 H A) where
@@ -121,26 +121,26 @@ module _ {M : Type 1} (𝓤 : URA M) (H : Heap 𝓤) (A : Atoms 𝓤) (W : Given
         alloc1 ! (λ l₀. alloc1 ! (λ l₁. alloc-all (given ps) (λ bs. alloc1 ! (λ lₕ. alloc1 ! (λ lₚ. alloc1 ! (λ lᵣ. alloc-all (lent ps) (λ ts. alloc1 ! (λ l.
         let E₂ : Env 𝓤 H = (T′.mir, l) ∷ [] in
         let E₁ : Env 𝓤 H = (T′.mir, lₕ) ∷ (τ, lₚ) ∷ (tyRef erased mut (pointee (T.the-row .written)), lᵣ) ∷ onto (lent ps) ts E₂ in
-        let copied : spotOf 𝓤 H (onto (given ps) bs E₁) (after ps (suc (suc (suc (beyond ps 0))))) ≡ spotOf 𝓤 H E₂ 0 = past 𝓤 H ps bs E₁ (suc (suc (suc (beyond ps 0)))) ∙ past-lent 𝓤 H ps ts E₂ 0 in
+        let copied : spotOf 𝓤 H (onto (given ps) bs E₁) (after-params ps (suc (suc (suc (after-temps ps 0))))) ≡ spotOf 𝓤 H E₂ 0 = spot-after-params 𝓤 H ps bs E₁ (suc (suc (suc (after-temps ps 0)))) ∙ spot-after-temps 𝓤 H ps ts E₂ 0 in
         alloc0 ! $ params1 ! $ pass1 ! (init ! 10 refl (LL.lawful T.the-type T′.the-laws 𝓤 H A W .typed h _ is .0)) $ move ! (9 ∷ []) $ pass-all (given ps) bs fits (pass0 ! $
         -- [the parameters; room for the last copy; …; room for the temporaries; room for the reference; …; room for the answer; …; room for the heap that is lent; …; _1; …; room for _0; …; the rest]
-        assigns ! (of-opd ! (load ! (from ! (stop !)) (look ! 10 refl))) (from-at ! (past 𝓤 H ps bs E₁ 0) (stop !)) (init ! 8 refl (LL.lawful T.the-type T′.the-laws 𝓤 H A W .typed h _ is .0)) $
-        assigns ! (addr ! (from-at ! (past 𝓤 H ps bs E₁ 0) (stop !))) (from-at ! (past 𝓤 H ps bs E₁ 2) (stop !)) (init ! 4 refl (tt, tt)) $
-        move ! (0 ∷ 3 ∷ []) $ lends-all ! E₁ E₂ ps bs ts param (temp ps) (λ j. refl) (λ j. past 𝓤 H ps bs E₁ (suc (suc (suc j)))) fits (
-        -- the heap is lent for a lifetime of the call
+        assigns ! (of-opd ! (load ! (from ! (stop !)) (look ! 10 refl))) (from-at ! (spot-after-params 𝓤 H ps bs E₁ 0) (stop !)) (init ! 8 refl (LL.lawful T.the-type T′.the-laws 𝓤 H A W .typed h _ is .0)) $
+        assigns ! (addr ! (from-at ! (spot-after-params 𝓤 H ps bs E₁ 0) (stop !))) (from-at ! (spot-after-params 𝓤 H ps bs E₁ 2) (stop !)) (init ! 4 refl (tt, tt)) $
+        move ! (0 ∷ 3 ∷ []) $ lends-all ! E₁ E₂ ps bs ts param (temp ps) (λ j. refl) (λ j. spot-after-params 𝓤 H ps bs E₁ (suc (suc (suc j)))) fits (
+        -- the heap is lent for a lifetime that ends after the call
         move ! (8 ∷ []) $ use1 W (‵ (mem T.the-row .lies h lₕ 0)) (lies-in h lₕ is) $ lft-new ! tt (λ α. move ! (1 ∷ []) $
         use1 W (later (some (λ (γ : GName). ‵ (lent-own α γ lₕ h) ⊛ ‵ (flent (α ∷ []) (Body (mem T.the-row) lₕ 0 γ))))) (lends-ref 𝓤 H A W T.the-row (named 0) (α ∷ []) h lₕ 0) $ await ! tt $ pick ! (λ γ. split ! $
         move ! (2 ∷ 0 ∷ 16 ∷ []) $ group ! 3 $
-        calls-from ! fm (‵ (flft (α ∷ []) fullShare) ⊛ ‵ (lent-own α γ lₕ h) ⊛ raw Rest) (vptr lₕ 0 ∷ vals-of (given ps)) (Q α γ lₕ) (calls α γ lₕ) (and-then ! (load ! (from-at ! (past 𝓤 H ps bs E₁ 2) (stop !)) (look ! 6 refl))
-        (operands-all ! E₁ E₂ ps bs ts param (temp ps) (λ j. refl) (λ j. past 𝓤 H ps bs E₁ (suc (suc (suc j)))) (λ _ _ _ _ p. look-in ! 2 p) (λ _ _ _ _ p. look-in ! 3 p))) (λ w.
+        calls-from ! fm (‵ (flft (α ∷ []) fullShare) ⊛ ‵ (lent-own α γ lₕ h) ⊛ raw Rest) (vptr lₕ 0 ∷ vals-of (given ps)) (Q α γ lₕ) (calls α γ lₕ) (and-then ! (load ! (from-at ! (spot-after-params 𝓤 H ps bs E₁ 2) (stop !)) (look ! 6 refl))
+        (operands-all ! E₁ E₂ ps bs ts param (temp ps) (λ j. refl) (λ j. spot-after-params 𝓤 H ps bs E₁ (suc (suc (suc j)))) (λ _ _ _ _ p. look-in ! 2 p) (λ _ _ _ _ p. look-in ! 3 p))) (λ w.
         use1 W (later (some (λ (r : Out). (‵ (flft (α ∷ []) fullShare) ⊛ ‵ (fres γ (T.the-row .coded .code (new r))) ⊛ raw (After r)) ⊛ raw (fact 𝓤 (Learnt ν τ w (ans r) (new r)))))) (told α γ lₕ w) $ await ! tt $ pick ! (λ r. split ! $ move ! (1 ∷ []) $ heard ! (Learnt ν τ w (ans r) (new r)) (λ e.
         -- and is back
         split ! $ lft-end ! tt $ move ! (1 ∷ []) $ split ! $ move ! (2 ∷ 3 ∷ 0 ∷ []) $ use3 W (later (‵ (mem T.the-row .lies (new r) lₕ 0))) (ref-back 𝓤 H A W T.the-row (α ∷ []) γ (new r) lₕ 0) $ await ! tt $
         use1 W (‵ (fat fullShare T′.mir lₕ 0 (heapVal (new r))) ⊛ raw (fact 𝓤 (Is T.the-row (new r) (heapVals (new r))))) (lies-out (new r) lₕ) $ split ! $ move ! (1 ∷ []) $ heard ! (Is T.the-row (new r) (heapVals (new r))) (λ is′.
         -- [the heap; what comes after; the parameters; the temporaries; room for the last copy; …; the reference; …; room for the answer; …; what frees the heap; _1; …; room for _0; …]
-        land ! (from-at ! (past 𝓤 H ps bs E₁ 1) (stop !)) (init ! 8 refl (e .1)) $ rewrite ! 8 (λ (u : Val). ‵ (fat fullShare τ lₚ 0 u)) (e .0) refl $
-        assigns ! (of-opd ! (load ! (from-at ! (past 𝓤 H ps bs E₁ 0) (stop !)) (look ! 0 refl))) (from-at ! copied (stop !)) (init ! 4 refl (LL.lawful T.the-type T′.the-laws 𝓤 H A W .typed (new r) _ is′ .0)) $
-        assigns ! (agg ! (and-then ! (load ! (from-at ! (past 𝓤 H ps bs E₁ 1) (stop !)) (look ! 8 refl)) (and-then ! (load ! (from-at ! copied (stop !)) (look ! 4 refl)) (no-more !)))) (from ! (stop !)) (init ! 13 refl (e .2 is′)) $
+        land ! (from-at ! (spot-after-params 𝓤 H ps bs E₁ 1) (stop !)) (init ! 8 refl (e .1)) $ rewrite ! 8 (λ (u : Val). ‵ (fat fullShare τ lₚ 0 u)) (e .0) refl $
+        assigns ! (of-opd ! (load ! (from-at ! (spot-after-params 𝓤 H ps bs E₁ 0) (stop !)) (look ! 0 refl))) (from-at ! copied (stop !)) (init ! 4 refl (LL.lawful T.the-type T′.the-laws 𝓤 H A W .typed (new r) _ is′ .0)) $
+        assigns ! (agg ! (and-then ! (load ! (from-at ! (spot-after-params 𝓤 H ps bs E₁ 1) (stop !)) (look ! 8 refl)) (and-then ! (load ! (from-at ! copied (stop !)) (look ! 4 refl)) (no-more !)))) (from ! (stop !)) (init ! 13 refl (e .2 is′)) $
         returns ! (look ! 13 refl) $ forget ! 0 refl $ forget ! 4 refl $ forget ! 6 refl $ forget ! 8 refl $ forget ! 11 refl $ forget ! 13 refl $ move ! (13 ∷ 14 ∷ []) $ free1 ! $ move ! (11 ∷ 12 ∷ []) $ free1 ! $
         move ! (2 ∷ []) $ free-all (given ps) bs (move ! (0 ∷ 9 ∷ []) $ free1 ! $ move ! (6 ∷ 7 ∷ []) $ free1 ! $ move ! (4 ∷ 5 ∷ []) $ free1 ! $ move ! (1 ∷ []) $ free-all (lent ps) ts (move ! (1 ∷ 2 ∷ []) $ free1 ! $ free0 ! $ by ! (ends r is′)))))))))))))))))))
 
@@ -156,15 +156,15 @@ module _ {M : Type 1} (𝓤 : URA M) (H : Heap 𝓤) (A : Atoms 𝓤) (W : Given
         let E₁ : Env 𝓤 H = (T′.mir, lₕ) ∷ (tyRef erased imm (pointee (T.the-row .written)), lᵣ) ∷ onto (lent ps) ts [] in
         alloc0 ! $ params1 ! $ pass1 ! (init ! 6 refl (LL.lawful T.the-type T′.the-laws 𝓤 H A W .typed h _ is .0)) $ move ! (5 ∷ []) $ pass-all (given ps) bs fits (pass0 ! $
         -- [the parameters; room for the temporaries; room for the reference; …; room for the heap that is lent; …; _1; …; room for _0; …; the rest]
-        assigns ! (of-opd ! (load ! (from ! (stop !)) (look ! 6 refl))) (from-at ! (past 𝓤 H ps bs E₁ 0) (stop !)) (init ! 4 refl (LL.lawful T.the-type T′.the-laws 𝓤 H A W .typed h _ is .0)) $
-        assigns ! (addr ! (from-at ! (past 𝓤 H ps bs E₁ 0) (stop !))) (from-at ! (past 𝓤 H ps bs E₁ 1) (stop !)) (init ! 2 refl (tt, tt)) $
-        lends-all ! E₁ [] ps bs ts param (λ j. past-params ps (suc (suc j))) (λ j. refl) (λ j. past 𝓤 H ps bs E₁ (suc (suc j))) fits (
-        -- the heap is lent for a lifetime of the call
+        assigns ! (of-opd ! (load ! (from ! (stop !)) (look ! 6 refl))) (from-at ! (spot-after-params 𝓤 H ps bs E₁ 0) (stop !)) (init ! 4 refl (LL.lawful T.the-type T′.the-laws 𝓤 H A W .typed h _ is .0)) $
+        assigns ! (addr ! (from-at ! (spot-after-params 𝓤 H ps bs E₁ 0) (stop !))) (from-at ! (spot-after-params 𝓤 H ps bs E₁ 1) (stop !)) (init ! 2 refl (tt, tt)) $
+        lends-all ! E₁ [] ps bs ts param (λ j. local-after-params ps (suc (suc j))) (λ j. refl) (λ j. spot-after-params 𝓤 H ps bs E₁ (suc (suc j))) fits (
+        -- the heap is lent for a lifetime that ends after the call
         move ! (4 ∷ []) $ use1 W (‵ (mem T.the-row .lies h lₕ 0)) (lies-in h lₕ is) $ lft-new ! tt (λ α. move ! (1 ∷ []) $
         use1 W (later (some (λ (γ : GName). ‵ (shown-own α γ lₕ h) ⊛ ‵ (flent (α ∷ []) (partAt T.the-row fullShare h lₕ 0))))) (lends-shr 𝓤 H A W T.the-row (named 0) (α ∷ []) fullShare h lₕ 0) $ await ! tt $ pick ! (λ γ. split ! $
         move ! (2 ∷ 0 ∷ 12 ∷ []) $ group ! 3 $
-        calls-from ! fm (‵ (flft (α ∷ []) fullShare) ⊛ ‵ (shown-own α γ lₕ h) ⊛ raw Rest) (vptr lₕ 0 ∷ vals-of (given ps)) (Q α γ lₕ) (calls α γ lₕ) (and-then ! (load ! (from-at ! (past 𝓤 H ps bs E₁ 1) (stop !)) (look ! 4 refl))
-        (operands-all ! E₁ [] ps bs ts param (λ j. past-params ps (suc (suc j))) (λ j. refl) (λ j. past 𝓤 H ps bs E₁ (suc (suc j))) (λ _ _ _ _ p. look-in ! 2 p) (λ _ _ _ _ p. look-in ! 3 p))) (λ w.
+        calls-from ! fm (‵ (flft (α ∷ []) fullShare) ⊛ ‵ (shown-own α γ lₕ h) ⊛ raw Rest) (vptr lₕ 0 ∷ vals-of (given ps)) (Q α γ lₕ) (calls α γ lₕ) (and-then ! (load ! (from-at ! (spot-after-params 𝓤 H ps bs E₁ 1) (stop !)) (look ! 4 refl))
+        (operands-all ! E₁ [] ps bs ts param (λ j. local-after-params ps (suc (suc j))) (λ j. refl) (λ j. spot-after-params 𝓤 H ps bs E₁ (suc (suc j))) (λ _ _ _ _ p. look-in ! 2 p) (λ _ _ _ _ p. look-in ! 3 p))) (λ w.
         use1 W (later ((‵ (flft (α ∷ []) fullShare) ⊛ raw (After w)) ⊛ raw (fact 𝓤 (Fits τ w)))) (told α γ lₕ w) $ await ! tt $ split ! $ move ! (1 ∷ []) $ heard ! (Fits τ w) (λ e.
         -- and is back
         split ! $ lft-end ! tt $ move ! (0 ∷ 2 ∷ []) $ lent-back ! tt $ use1 W (‵ (fat fullShare T′.mir lₕ 0 (heapVal h)) ⊛ raw (fact 𝓤 (Is T.the-row h (heapVals h)))) (lies-out h lₕ) $ split ! $ move ! (1 ∷ []) $ drop ! $
@@ -172,7 +172,7 @@ module _ {M : Type 1} (𝓤 : URA M) (H : Heap 𝓤) (A : Atoms 𝓤) (W : Given
         land ! (from ! (stop !)) (init ! 9 refl e) $ returns ! (look ! 9 refl) $ forget ! 0 refl $ forget ! 4 refl $ forget ! 7 refl $ forget ! 9 refl $ move ! (9 ∷ 10 ∷ []) $ free1 ! $ move ! (7 ∷ 8 ∷ []) $ free1 ! $
         move ! (2 ∷ []) $ free-all (given ps) bs (move ! (0 ∷ 5 ∷ []) $ free1 ! $ move ! (2 ∷ 3 ∷ []) $ free1 ! $ move ! (1 ∷ []) $ free-all (lent ps) ts (free0 ! $ by ! (ends w)))))))))))))))
 
-  -- ---- what a function f is held to, whose code is such: vs are the machine values of what is handed on, Tok is the tokens, Req what both ask, Own what the parameters but the heap own, and L what is said of their last values
+  -- ---- what a function f with that code is held to: vs are the machine values of what is handed on, Tok is the tokens, Req what both ask, Own what the parameters but the heap own, and L what is said of their last values
   module _ (C : Calls 𝓤 H) (Λ : Loops 𝓤 H) (k : Name) (ls : ℕ) (ps : List Pass) (f : Fn) (vs : List Val) (same : vals-of (given ps) ≡ vs) (fits : AllFit (given ps)) (fm : FmC 𝓤 H (W .laws) C)
       (h : Record) (is : Is T.the-row h (heapVals h)) (Tok Req : SProp 𝓤) (Own : Fml) (Ws : Type 0) (L : Ws → Fml) where
     abbrev Rest : SProp 𝓤

@@ -39,7 +39,7 @@ use denote.Triple.Statement.{Contract, Triple}
 use denote.Triple.Call.{calls-from}
 use denote.Triple.Clauses.{Ended, Clauses, atExit, closing}
 use denote.Triple.Walked.{says}
-use Rattle.driver.proofs.Locals.{Fits, AllFit, Pass, locals-of, vals-of, given, lent, after, param, past-params, lends, operands, onto, past, from-at, alloc-all, pass-all, free-all, lends-all, operands-all}
+use Rattle.driver.proofs.Locals.{Fits, AllFit, Pass, locals-of, vals-of, given, lent, after-params, param, local-after-params, lends, operands, onto, spot-after-params, from-at, alloc-all, pass-all, free-all, lends-all, operands-all}
 use Rattle.driver.proofs.Parameters.{Handing}
 use Rattle.driver.proofs.Contracts.{Takes, heap-own, heap-last, no-last, Asked, Ensured, Back, met-at}
 use Rattle.driver.proofs.Answers.{heapVal, heapVals, pairTy, pairVal, Answer, Pair}
@@ -53,23 +53,23 @@ module _ (k : Name) (ls : ℕ) (ps : List Pass) where
   fn ν τ = record {
     lifetimes = ls;
     outlives = [];
-    params = suc (after ps 0);
+    params = suc (after-params ps 0);
     locals = local τ valueLocal ∷ local (tyRef (named 0) mut (pointee (T.the-row .written))) valueLocal ∷ locals-of (given ps) (local (pairTy ν τ) valueLocal ∷ local T′.mir valueLocal ∷ locals-of (lent ps) []);
-    body = seq (assign (place (past-params ps 1) []) (rvOpd (copy (place 1 (deref T′.mir ∷ [])))))
-        (lends param (λ j. past-params ps (suc (suc j))) ps
-        (seq (call k (copy (place (past-params ps 1) []) ∷ operands param (λ j. past-params ps (suc (suc j))) ps) (place (past-params ps 0) []))
-        (seq (assign (place 1 (deref T′.mir ∷ [])) (rvOpd (copy (place (past-params ps 0) (field 1 ∷ [])))))
-        (seq (assign (place 0 []) (rvOpd (copy (place (past-params ps 0) (field 0 ∷ []))))) return))));
+    body = seq (assign (place (local-after-params ps 1) []) (rvOpd (copy (place 1 (deref T′.mir ∷ [])))))
+        (lends param (λ j. local-after-params ps (suc (suc j))) ps
+        (seq (call k (copy (place (local-after-params ps 1) []) ∷ operands param (λ j. local-after-params ps (suc (suc j))) ps) (place (local-after-params ps 0) []))
+        (seq (assign (place 1 (deref T′.mir ∷ [])) (rvOpd (copy (place (local-after-params ps 0) (field 1 ∷ [])))))
+        (seq (assign (place 0 []) (rvOpd (copy (place (local-after-params ps 0) (field 0 ∷ []))))) return))));
   }
 
   abbrev pub fn-shr : Ty → Fn
   fn-shr τ = record {
     lifetimes = ls;
     outlives = [];
-    params = suc (after ps 0);
+    params = suc (after-params ps 0);
     locals = local τ valueLocal ∷ local (tyRef (named 0) imm (pointee (T.the-row .written))) valueLocal ∷ locals-of (given ps) (local T′.mir valueLocal ∷ locals-of (lent ps) []);
-    body = seq (assign (place (past-params ps 0) []) (rvOpd (copy (place 1 (deref T′.mir ∷ [])))))
-        (lends param (λ j. past-params ps (suc j)) ps (seq (call k (copy (place (past-params ps 0) []) ∷ operands param (λ j. past-params ps (suc j)) ps) (place 0 [])) return));
+    body = seq (assign (place (local-after-params ps 0) []) (rvOpd (copy (place 1 (deref T′.mir ∷ [])))))
+        (lends param (λ j. local-after-params ps (suc j)) ps (seq (call k (copy (place (local-after-params ps 0) []) ∷ operands param (λ j. local-after-params ps (suc j)) ps) (place 0 [])) return));
   }
 
 module _ {M : Type 1} (𝓤 : URA M) (H : Heap 𝓤) (A : Atoms 𝓤) (W : Given 𝓤 H A) where
@@ -95,16 +95,16 @@ module _ {M : Type 1} (𝓤 : URA M) (H : Heap 𝓤) (A : Atoms 𝓤) (W : Given
           opens ! tt T.the-row {h = x .now} (x .ptr .0) (x .ptr .1) (λ us. spelt ! T.the-row (Is T.the-row) (shows 𝓤 H A T.the-row) heapVals (LL.tells T.the-type T′.the-laws) fullShare (x .now) us (x .ptr .0) (x .ptr .1) $
           move ! (1 ∷ []) $ facts ! T.the-row (Is T.the-row) (shows 𝓤 H A T.the-row) (x .now) (heapVals (x .now)) (λ g.
           -- [the heap's cell; the open borrow; obs; auth; the parameters; room for the temporaries; room for the copy; …; room for the answer; …; _1; …; room for _0; …; the rest]
-          assigns ! (of-opd ! (load ! (from ! (hop ! (look ! 10 refl) (stop !))) (look-raw ! 0 refl))) (from-at ! (past 𝓤 H ps bs E₁ 1) (stop !)) (init ! 6 refl (LL.lawful T.the-type T′.the-laws 𝓤 H A W .typed (x .now) _ g .0)) $
-          move ! (4 ∷ 5 ∷ []) $ lends-all ! E₁ [] ps bs ts param (λ j. past-params ps (suc (suc j))) (λ j. refl) (λ j. past 𝓤 H ps bs E₁ (suc (suc j))) fits (
+          assigns ! (of-opd ! (load ! (from ! (hop ! (look ! 10 refl) (stop !))) (look-raw ! 0 refl))) (from-at ! (spot-after-params 𝓤 H ps bs E₁ 1) (stop !)) (init ! 6 refl (LL.lawful T.the-type T′.the-laws 𝓤 H A W .typed (x .now) _ g .0)) $
+          move ! (4 ∷ 5 ∷ []) $ lends-all ! E₁ [] ps bs ts param (λ j. local-after-params ps (suc (suc j))) (λ j. refl) (λ j. spot-after-params 𝓤 H ps bs E₁ (suc (suc j))) fits (
           -- the call
-          move ! (14 ∷ []) $ calls-from ! fm (raw Rest) (heapVal (x .now) ∷ vals-of (given ps)) Q (calls g) (and-then ! (load ! (from-at ! (past 𝓤 H ps bs E₁ 1) (stop !)) (look ! 7 refl))
-          (operands-all ! E₁ [] ps bs ts param (λ j. past-params ps (suc (suc j))) (λ j. refl) (λ j. past 𝓤 H ps bs E₁ (suc (suc j))) (λ _ _ _ _ p. look-in ! 1 p) (λ _ _ _ _ p. look-in ! 2 p))) (λ w.
+          move ! (14 ∷ []) $ calls-from ! fm (raw Rest) (heapVal (x .now) ∷ vals-of (given ps)) Q (calls g) (and-then ! (load ! (from-at ! (spot-after-params 𝓤 H ps bs E₁ 1) (stop !)) (look ! 7 refl))
+          (operands-all ! E₁ [] ps bs ts param (λ j. local-after-params ps (suc (suc j))) (λ j. refl) (λ j. spot-after-params 𝓤 H ps bs E₁ (suc (suc j))) (λ _ _ _ _ p. look-in ! 1 p) (λ _ _ _ _ p. look-in ! 2 p))) (λ w.
           use1 W (later (some (λ (r : Out). raw (After r) ⊛ raw (fact 𝓤 (Parts w (ans r) (new r)))))) (told w) $ await ! tt $ pick ! (λ r. split ! $ move ! (1 ∷ []) $ heard ! (Parts w (ans r) (new r)) (λ e.
           -- [what comes after; the parameters; the temporaries; the heap's cell; the open borrow; obs; auth; the copy; …; room for the answer; …; _1; …; room for _0; …]
-          land ! (from-at ! (past 𝓤 H ps bs E₁ 0) (stop !)) (init ! 9 refl (e .1)) $ rewrite ! 9 (λ (u : Val). ‵ (fat fullShare (pairTy ν τ) lₒ 0 u)) (e .0) refl $
-          assigns ! (of-opd ! (load ! (from-at ! (past 𝓤 H ps bs E₁ 0) (fld ! refl (stop !))) (look-in ! 9 (sub ! 1 refl (whole !))))) (from ! (hop ! (look ! 11 refl) (stop !))) (store-raw ! 3 refl (LL.lawful T.the-type T′.the-laws 𝓤 H A W .typed (new r) _ (e .3) .0)) $
-          assigns ! (of-opd ! (load ! (from-at ! (past 𝓤 H ps bs E₁ 0) (fld ! refl (stop !))) (look-in ! 9 (sub ! 0 refl (whole !))))) (from ! (stop !)) (init ! 13 refl (e .2)) $
+          land ! (from-at ! (spot-after-params 𝓤 H ps bs E₁ 0) (stop !)) (init ! 9 refl (e .1)) $ rewrite ! 9 (λ (u : Val). ‵ (fat fullShare (pairTy ν τ) lₒ 0 u)) (e .0) refl $
+          assigns ! (of-opd ! (load ! (from-at ! (spot-after-params 𝓤 H ps bs E₁ 0) (fld ! refl (stop !))) (look-in ! 9 (sub ! 1 refl (whole !))))) (from ! (hop ! (look ! 11 refl) (stop !))) (store-raw ! 3 refl (LL.lawful T.the-type T′.the-laws 𝓤 H A W .typed (new r) _ (e .3) .0)) $
+          assigns ! (of-opd ! (load ! (from-at ! (spot-after-params 𝓤 H ps bs E₁ 0) (fld ! refl (stop !))) (look-in ! 9 (sub ! 0 refl (whole !))))) (from ! (stop !)) (init ! 13 refl (e .2)) $
           -- and closed at the new heap
           owned ! T.the-row (Is T.the-row) (LL.makes T.the-type T′.the-plain 𝓤 H A) (new r) (heapVals (new r)) (e .3) $ move ! (4 ∷ 0 ∷ 5 ∷ 6 ∷ 7 ∷ []) $ closes ! tt T.the-row (new r) (heapVals (new r)) (x .ptr .0) (x .ptr .1) $
           returns ! (look ! 12 refl) $ forget ! 6 refl $ forget ! 8 refl $ forget ! 10 refl $ forget ! 12 refl $ move ! (12 ∷ 13 ∷ []) $ free1 ! $ move ! (10 ∷ 11 ∷ []) $ free1 ! $
@@ -127,23 +127,24 @@ module _ {M : Type 1} (𝓤 : URA M) (H : Heap 𝓤) (A : Atoms 𝓤) (W : Given
           spelt ! T.the-row (Is T.the-row) (shows 𝓤 H A T.the-row) heapVals (LL.tells T.the-type T′.the-laws) q′ (x .now) us (x .ptr .0) (x .ptr .1) $
           move ! (1 ∷ []) $ peeks ! T.the-row (Is T.the-row) (shows 𝓤 H A T.the-row) (x .now) (heapVals (x .now)) (λ g. move ! (1 ∷ 0 ∷ []) $
           -- [a share of the heap's cell; what it owns; what shuts it; the fractured borrow; res; the parameters; room for the temporaries; room for the copy; …; _1; …; room for _0; …; the rest]
-          assigns ! (of-opd ! (load ! (from ! (hop ! (look ! 9 refl) (stop !))) (look-raw ! 0 refl))) (from-at ! (past 𝓤 H ps bs E₁ 0) (stop !)) (init ! 7 refl (LL.lawful T.the-type T′.the-laws 𝓤 H A W .typed (x .now) _ g .0)) $
+          assigns ! (of-opd ! (load ! (from ! (hop ! (look ! 9 refl) (stop !))) (look-raw ! 0 refl))) (from-at ! (spot-after-params 𝓤 H ps bs E₁ 0) (stop !)) (init ! 7 refl (LL.lawful T.the-type T′.the-laws 𝓤 H A W .typed (x .now) _ g .0)) $
           shuts ! tt T.the-row q′ (x .now) (heapVals (x .now)) (x .ptr .0) (x .ptr .1) $
-          move ! (3 ∷ 4 ∷ []) $ lends-all ! E₁ [] ps bs ts param (λ j. past-params ps (suc j)) (λ j. refl) (λ j. past 𝓤 H ps bs E₁ (suc j)) fits (
+          move ! (3 ∷ 4 ∷ []) $ lends-all ! E₁ [] ps bs ts param (λ j. local-after-params ps (suc j)) (λ j. refl) (λ j. spot-after-params 𝓤 H ps bs E₁ (suc j)) fits (
           -- the call
-          move ! (11 ∷ []) $ calls-from ! fm (raw Rest) (heapVal (x .now) ∷ vals-of (given ps)) Q (calls g) (and-then ! (load ! (from-at ! (past 𝓤 H ps bs E₁ 0) (stop !)) (look ! 6 refl))
-          (operands-all ! E₁ [] ps bs ts param (λ j. past-params ps (suc j)) (λ j. refl) (λ j. past 𝓤 H ps bs E₁ (suc j)) (λ _ _ _ _ p. look-in ! 1 p) (λ _ _ _ _ p. look-in ! 2 p))) (λ w.
+          move ! (11 ∷ []) $ calls-from ! fm (raw Rest) (heapVal (x .now) ∷ vals-of (given ps)) Q (calls g) (and-then ! (load ! (from-at ! (spot-after-params 𝓤 H ps bs E₁ 0) (stop !)) (look ! 6 refl))
+          (operands-all ! E₁ [] ps bs ts param (λ j. local-after-params ps (suc j)) (λ j. refl) (λ j. spot-after-params 𝓤 H ps bs E₁ (suc j)) (λ _ _ _ _ p. look-in ! 1 p) (λ _ _ _ _ p. look-in ! 2 p))) (λ w.
           use1 W (later (raw (After w) ⊛ raw (fact 𝓤 (Fits τ w)))) (told w) $ await ! tt $ split ! $ move ! (1 ∷ []) $ heard ! (Fits τ w) (λ e.
           -- [what comes after; the parameters; the temporaries; the token; the fractured borrow; res; the copy; …; _1; …; room for _0; …]
           land ! (from ! (stop !)) (init ! 10 refl e) $ returns ! (look ! 10 refl) $ forget ! 6 refl $ forget ! 8 refl $ forget ! 10 refl $ move ! (10 ∷ 11 ∷ []) $ free1 ! $ move ! (8 ∷ 9 ∷ []) $ free1 ! $
           move ! (1 ∷ []) $ free-all (given ps) bs (move ! (5 ∷ 6 ∷ []) $ free1 ! $ move ! (1 ∷ []) $ free-all (lent ps) ts (free0 ! $ keep ! (1 ∷ 0 ∷ []) $ by ! (ends w))))))))))))))
 
-    -- ---- what a function f is held to, whose code is such: vs are the machine values of what is handed on, Tok is the tokens but the heap's, Req what both ask, Own what the other parameters own, and L what is said of their last values
+    -- ---- what a function f with that code is held to: vs are the machine values of what is handed on, Tok is the tokens but the heap's, Req what both ask, Own what the other parameters own, and L what is said of their last values
     module _ (f : Fn) (vs : List Val) (same : vals-of (given ps) ≡ vs) (fits : AllFit (given ps)) (fm : FmC 𝓤 H (W .laws) C) (κ : Lft) (q : Share) (x : RefT Record) (Tok Req : SProp 𝓤) (Own : Fml) (Ws : Type 0) (L : Ws → Fml) where
-      -- what is left of the entry once the heap's borrow is taken out, and the heap's record make what is asked
+      -- what is left of the entry without the heap's borrow
       abbrev Rest : SProp 𝓤
       Rest = sep 𝓤 (sep 𝓤 Tok (sem 𝓤 H A Own)) Req
 
+      -- with the record it is what the core is asked
       asks : Is T.the-row (x .now) (heapVals (x .now)) → ent 𝓤 Rest (Asked 𝓤 H A Tok (heap-own (x .now)) Own Req)
       asks is = qed W ((raw Tok ⊛ ‵ Own) ∷ raw Req ∷ []) ∵ split ! $ move ! (1 ∷ []) $ owned ! T.the-row (Is T.the-row) (LL.makes T.the-type T′.the-plain 𝓤 H A) (x .now) (heapVals (x .now)) is $ fjoin ! $ move ! (1 ∷ 0 ∷ []) $ join ! $ done !
 

@@ -10,7 +10,7 @@ use model::Holding;
 use model::Placed;
 use model::Totals;
 
-// Lends `size` bytes to `owner`, on any boundary, and answers the byte offset.
+// Lends `size` bytes to `owner` on a boundary of 16 bytes, and answers the byte offset.
 pub fn alloc(heap: &mut Heap, table: &mut [u32], owner: u32, size: u32) -> Placed
     ensures { λ r. ⌜ AllocDone (now (heap .entry)) (now (table .entry)) owner size 16 (record { placed = r; heap = now (heap .exit) }) (now (table .exit)) ⌝ }
 {
@@ -64,7 +64,8 @@ pub fn holding(heap: &Heap, table: &[u32], owner: u32) -> Holding
     heap::holding(*heap, table, owner)
 }
 
-// The calls above for a caller that keeps the record itself: each lends its own copy, and a mutating one answers it beside the answer.
+// The calls above for a caller that keeps the record itself: each lends its own copy, and a mutating one gives the copy back
+// beside the answer.
 
 pub fn alloc_by_value(heap: Heap, table: &mut [u32], owner: u32, size: u32) -> Allocated
     ensures { λ r. ⌜ AllocDone heap (now (table .entry)) owner size 16 r (now (table .exit)) ⌝ }
