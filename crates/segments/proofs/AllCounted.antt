@@ -17,12 +17,12 @@ use Rattle.model.proofs.Choosing.{split, tests, clash, parts, both-true, every-
 use Rattle.segments.specs.Rows.{segmentsIn}
 use Rattle.segments.specs.Tiling.{tiles, wellFormed, isMap}
 use Rattle.segments.specs.Counting.{Bounded, Counted}
-use Rattle.segments.specs.Steps.{followsOf, brokenOf, freeOf, liveOf}
+use Rattle.segments.specs.Steps.{noneCounted, followsOf, brokenOf, freeOf, liveOf}
 use Rattle.segments.proofs.TilesMap.{First, first, map-is}
 use Rattle.segments.proofs.Reading.{tiles-le}
 use Rattle.segments.proofs.Apart.{apartFrom, apart-all}
 use Rattle.segments.proofs.Following.{Follows}
-use Rattle.segments.proofs.OneCounted.{noneCounted, countAll, counted-not, by-cases, counted-bounded, broken-bounded, none-held, none-bounded}
+use Rattle.segments.proofs.OneCounted.{countAll, counted-not, by-cases, counted-bounded, broken-bounded, none-held, none-bounded}
 use Rattle.model.specs.declared.Segment.{Segment}
 use Rattle.segments.specs.declared.Census.{Census}
 

@@ -13,14 +13,10 @@ use Rattle.model.specs.Quantities.{Config}
 use Rattle.model.specs.SegmentMap.{isFree}
 use Rattle.model.proofs.Choosing.{split, tests}
 use Rattle.segments.specs.Counting.{Bounded}
-use Rattle.segments.specs.Steps.{followsOf, brokenOf, freeOf, liveOf, countedOf}
+use Rattle.segments.specs.Steps.{noneCounted, followsOf, brokenOf, freeOf, liveOf, countedOf}
 use Rattle.segments.proofs.Following.{Follows, follows-true}
 use Rattle.model.specs.declared.Segment.{Segment}
 use Rattle.segments.specs.declared.Census.{Census}
-
--- The count before the first row.
-abbrev pub noneCounted : Census
-noneCounted = record { ok = true; end = 0; «after_free» = false; used = 0; longest = 0; blocks = replicate 8 0; held = replicate 8 0 }
 
 -- The count with more rows.
 abbrev pub countAll : Config → Census → List Segment → Census

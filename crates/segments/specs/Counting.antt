@@ -2,15 +2,19 @@
 -- Assumes nothing.
 use Prim.Native.Nat.{ℕ, _-_, _≤_}
 use mathlib.Core.Path.{_≡_}
-use mathlib.Core.Bool.{true}
+use mathlib.Core.Bool.{true, false}
 use mathlib.Core.List.{List}
-use lib.ListN.{length, getD}
+use lib.ListN.{length, getD, replicate}
 use Rattle.model.specs.Quantities.{Config}
 use Rattle.model.specs.Allocation.{granulesOf, ownedBy}
 use Rattle.model.specs.SegmentMap.{longestFree}
 use Rattle.segments.specs.Rows.{segmentsIn, blocksIn}
 use Rattle.segments.specs.Tiling.{isMap}
 use Rattle.segments.specs.declared.Census.{Census}
+
+-- The count of a table over which no pass is made: no map, and every figure 0.
+abbrev pub notCounted : Census
+notCounted = record { ok = false; end = 0; «after_free» = false; used = 0; longest = 0; blocks = replicate 8 0; held = replicate 8 0 }
 
 -- No figure exceeds the granules passed, those do not exceed the arena's, and there is a figure of each kind for each of eight owners.
 pub record Bounded (g : ℕ) (k : Census) : Type 0 where

@@ -24,6 +24,10 @@ closed n ws = take n (drop 4 ws) ++ (replicate 4 0 ++ drop (n + 4) ws)
 abbrev pub padding : ℕ → ℕ → ℕ
 padding m s = (m - s % m) % m
 
+-- The count before the first row.
+abbrev pub noneCounted : Census
+noneCounted = record { ok = true; end = 0; «after_free» = false; used = 0; longest = 0; blocks = replicate 8 0; held = replicate 8 0 }
+
 -- A row may follow those counted: it begins where they end, is at least 1 long, ends in the arena, is well formed, and is not the second free one of two that touch.
 unfoldable pub followsOf : Config → Census → Segment → Bool
 followsOf c k x =

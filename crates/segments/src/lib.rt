@@ -13,9 +13,9 @@ ghost use Rattle.model.specs.SegmentMap.{freeRun, gap};
 ghost use Rattle.segments.specs.Rows.{wordsOf, segmentAt, segmentsIn, withRow, withRows, Rewritten};
 ghost use Rattle.segments.specs.Tiling.{isMap};
 ghost use Rattle.segments.specs.Search.{RowOf, Found};
-ghost use Rattle.segments.specs.Counting.{Bounded, Counted};
+ghost use Rattle.segments.specs.Counting.{notCounted, Bounded, Counted};
 ghost use Rattle.segments.specs.Changes.{replaced, inserted, removed, cut, joined, released};
-ghost use Rattle.segments.specs.Steps.{opened, closed, padding, followsOf, countedOf, brokenOf, freeOf, liveOf};
+ghost use Rattle.segments.specs.Steps.{opened, closed, padding, noneCounted, followsOf, countedOf, brokenOf, freeOf, liveOf};
 use model::Segment;
 use model::granules_for;
 
@@ -190,6 +190,28 @@ fn follows(k: Census, s: Segment, granules: u32) -> bool
     granules_for(s.requested) == s.length
 }
 
+// The count before the first row.
+fn none_counted() -> Census
+    ensures { λ r. ⌜ r ≡ noneCounted ⌝ }
+{
+    Census {
+        ok: true,
+        end: 0,
+        after_free: false,
+        used: 0,
+        longest: 0,
+        blocks: [0; 8],
+        held: [0; 8],
+    }
+}
+
+// The count of a table that is not worth a pass.
+pub fn not_counted() -> Census
+    ensures { λ r. ⌜ r ≡ notCounted ⌝ }
+{
+    broken(none_counted())
+}
+
 // The rows counted are no map.
 fn broken(mut k: Census) -> Census
     ensures { λ r. ⌜ r ≡ brokenOf k ⌝ }
@@ -256,15 +278,7 @@ pub fn take_census(table: &[u32], rows: usize, granules: u32) -> Census
     requires { do ⌜ 4 * rows ≤ (← ⟦table.len()⟧) ⌝ }
     ensures { λ r. ⌜ ((c : Config) → c .granules ≡ granules → Counted c rows (now (table .entry)) r) ⌝ }
 {
-    let mut k = Census {
-        ok: true,
-        end: 0,
-        after_free: false,
-        used: 0,
-        longest: 0,
-        blocks: [0; 8],
-        held: [0; 8],
-    };
+    let mut k = none_counted();
     let mut i: usize = 0;
     while i < rows {
         let s = row(table, i);

@@ -1,9 +1,10 @@
 -- `heap::examine` meets its contract.
 -- Assumes nothing.
-use mathlib.Core.Path.{refl, sym, _∙_}
+use mathlib.Core.Path.{refl, sym, ap, _∙_}
 use borrow.Author.Needs.{needs}
 use borrow.Author.Tests.{not-true, not-false}
 use Rattle.heap.proofs.Validating.{not-framed, framed-rows, no-map, agrees-valid, examined-not, examined}
+use Rattle.segments.specs.declared.Census.{Census}
 use Rattle.heap.proofs.examine.Statement.{statement}
 use Rattle.heap.proofs.examine.Tie as tie
 
@@ -16,7 +17,7 @@ not-counted-requires c κs = search needs
 returns : tie.Need-returns
 returns c =
     let a = c .before .before .before .before .args in
-    examined-not _ _ _ (c .not-counted .ensures) (not-framed (a .heap) (a .table .now) (sym (c .before .before .is-framed .ensures) ∙ not-true _ (c .before .if1 .taken)))
+    examined-not _ _ _ (ap (λ (k : Census). k .ok) (c .not-counted .ensures)) (not-framed (a .heap) (a .table .now) (sym (c .before .before .is-framed .ensures) ∙ not-true _ (c .before .if1 .taken)))
 
 cast-take-census : tie.Need-cast-take-census
 cast-take-census c = search needs

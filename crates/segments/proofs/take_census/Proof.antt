@@ -1,6 +1,6 @@
 -- `segments::take_census` meets its contract. The loop's invariant: the count so far, with the rows that are left, is the count of them all.
 -- Assumes nothing.
-use mathlib.Core.Path.{_≡_, refl, sym, ap, _∙_}
+use mathlib.Core.Path.{_≡_, sym, ap, _∙_}
 use mathlib.Core.List.{List}
 use Prim.Native.Nat.{ℕ, _+_, _-_, _≤_, _<_}
 use native.Mathlib.Omega.{arith}
@@ -8,9 +8,9 @@ use borrow.Author.Needs.{needs}
 use Rattle.model.specs.Quantities.{Config}
 use Rattle.segments.specs.Rows.{segmentAt, segmentsIn}
 use Rattle.segments.specs.Counting.{Bounded}
-use Rattle.segments.specs.Steps.{countedOf}
+use Rattle.segments.specs.Steps.{noneCounted, countedOf}
 use Rattle.segments.proofs.Reading.{rest, rest-row, rest-none}
-use Rattle.segments.proofs.OneCounted.{noneCounted, countAll, none-bounded}
+use Rattle.segments.proofs.OneCounted.{countAll, none-bounded}
 use Rattle.segments.proofs.AllCounted.{no-map, whole}
 use Rattle.model.specs.declared.Segment.{Segment}
 use Rattle.segments.specs.declared.Census.{Census}
@@ -33,8 +33,11 @@ Inv-loop table rows granules k₀ i₀ k i =
 abbrev μ-loop : tie.MeasureT-loop
 μ-loop table rows granules k₀ i₀ k i = rows - i
 
+none-counted-requires : tie.Need-none-counted-requires Inv-loop μ-loop
+none-counted-requires c κs = search needs
+
 loop-holds : tie.Need-loop-holds Inv-loop μ-loop
-loop-holds c = (omega arith, λ config e. refl, none-bounded _)
+loop-holds c = (omega arith, λ config e. rw (c .none-counted .ensures), rw (c .none-counted .ensures) (none-bounded _))
 
 row-requires : tie.Need-row-requires Inv-loop μ-loop
 row-requires c κs = omega arith
@@ -50,7 +53,7 @@ loop-less c = omega arith
 
 loop-again : tie.Need-loop-again Inv-loop μ-loop
 loop-again c =
-    let a = c .before .before .before .before .before .args in
+    let a = c .before .before .before .before .before .before .args in
     let l = c .before .before .before .loop in (
       omega arith,
       λ config e. l .inv .1 config e ∙ one-more config _ _ (a .table .now) _ _ _ (c .before .before .loop-test .taken) (c .before .row .ensures) (c .counted .ensures .0 config e),
@@ -58,10 +61,10 @@ loop-again c =
     )
 
 -- The count after the last row is the count of them all.
-all-counted : (c : tie.After-loop Inv-loop μ-loop) → (let a = c .before .before .before .args in
+all-counted : (c : tie.After-loop Inv-loop μ-loop) → (let a = c .before .before .before .before .args in
     (config : Config) → config .granules ≡ a .granules → countAll config noneCounted (segmentsIn (a .rows) (a .table .now)) ≡ c .before .loop .k)
 all-counted c config e =
-    let a = c .before .before .before .args in
+    let a = c .before .before .before .before .args in
     let l = c .before .loop in
     l .inv .1 config e ∙ ap (countAll config (l .k)) (rest-none (a .rows) (l .i) (a .table .now) (c .loop-test .left))
 
@@ -80,6 +83,7 @@ take-census-spec =
     (tie.spec
     Inv-loop
     μ-loop
+    none-counted-requires
     loop-holds
     row-requires
     counted-requires
