@@ -1,0 +1,75 @@
+-- What a line of a script may be, and what is written in answer: document 01's "The script program".
+-- Assumes nothing.
+use Prim.Native.Nat.{ℕ}
+use mathlib.Core.List.{List, [], _∷_}
+use mathlib.Core.Option.{Option, none, some}
+use lib.Dec.{leb}
+use lib.ListN.{length}
+use Rattle.model.specs.Choose.{choose}
+use Rattle.model.specs.Numbers.{numberOf, initNumberOf}
+use Rattle.script.specs.Text.{fieldsOf, numberIn, same, lineOf}
+use Rattle.script.specs.declared.Command.{Command}
+use Rattle.script.specs.declared.Command.the-variants.{Limit, Make, Ask, Back, Unreadable}
+use Rattle.script.specs.declared.Answer.{Answer}
+use Rattle.script.specs.declared.Answer.the-variants as answer
+
+-- The commands' words in bytes: `limit`, `make`, `ask`, `back`.
+abbrev pub limitWord : List ℕ
+limitWord = 108 ∷ 105 ∷ 109 ∷ 105 ∷ 116 ∷ []
+
+abbrev pub makeWord : List ℕ
+makeWord = 109 ∷ 97 ∷ 107 ∷ 101 ∷ []
+
+abbrev pub askWord : List ℕ
+askWord = 97 ∷ 115 ∷ 107 ∷ []
+
+abbrev pub backWord : List ℕ
+backWord = 98 ∷ 97 ∷ 99 ∷ 107 ∷ []
+
+-- A word with three numbers is `limit O G B` or `ask O N A`.
+abbrev pub withThree : List ℕ → Option ℕ → Option ℕ → Option ℕ → Command
+withThree w (some a) (some b) (some c) =
+    choose (same w limitWord) (Limit a b c) (choose (same w askWord) (Ask a b c) Unreadable)
+withThree w (some a) (some b) none = Unreadable
+withThree w (some a) none c = Unreadable
+withThree w none b c = Unreadable
+
+-- A word with two numbers is `make BYTES ROWS` or `back O OFFSET`.
+abbrev pub withTwo : List ℕ → Option ℕ → Option ℕ → Command
+withTwo w (some a) (some b) =
+    choose (same w makeWord) (Make a b) (choose (same w backWord) (Back a b) Unreadable)
+withTwo w (some a) none = Unreadable
+withTwo w none b = Unreadable
+
+-- A command is a word and two or three numbers; with fewer fields or more it cannot be read.
+abbrev pub commandOf : List (List ℕ) → Command
+commandOf [] = Unreadable
+commandOf (w ∷ []) = Unreadable
+commandOf (w ∷ a ∷ []) = Unreadable
+commandOf (w ∷ a ∷ b ∷ []) = withTwo w (numberIn a) (numberIn b)
+commandOf (w ∷ a ∷ b ∷ c ∷ []) = withThree w (numberIn a) (numberIn b) (numberIn c)
+commandOf (w ∷ a ∷ b ∷ c ∷ d ∷ fs) = Unreadable
+
+-- A line is at most 80 bytes without its newline.
+unfoldable pub readLine : List ℕ → Command
+readLine line = choose (leb (length line) 80) (commandOf (fieldsOf line)) Unreadable
+
+-- The words of the output in bytes: `ok`, `no`, `seg`, `sum`.
+abbrev pub okWord : List ℕ
+okWord = 111 ∷ 107 ∷ []
+
+abbrev pub noWord : List ℕ
+noWord = 110 ∷ 111 ∷ []
+
+abbrev pub segWord : List ℕ
+segWord = 115 ∷ 101 ∷ 103 ∷ []
+
+abbrev pub sumWord : List ℕ
+sumWord = 115 ∷ 117 ∷ 109 ∷ []
+
+-- An answer is written `ok V` with its value, or `no N` with document 01's number; 14 is a line that cannot be read.
+abbrev pub answerLine : Answer → List ℕ
+answerLine (answer.Ok v) = lineOf okWord (v ∷ [])
+answerLine (answer.Refused r) = lineOf noWord (numberOf r ∷ [])
+answerLine (answer.NotMade r) = lineOf noWord (initNumberOf r ∷ [])
+answerLine answer.Unreadable = lineOf noWord (14 ∷ [])

@@ -1,0 +1,50 @@
+-- A whole script: what is written for an input, and for an input that comes in parts.
+-- Assumes nothing.
+use Prim.Native.Nat.{ℕ, _/_, min}
+use mathlib.Core.List.{List, [], _∷_, _++_}
+use lib.ListN.{length, take}
+use Rattle.script.specs.Text.{prefixed, pieces, ended, unended, unlessEmpty, linesOf, atFront}
+use Rattle.script.specs.Commands.{readLine, answerLine}
+use Rattle.script.specs.Machine.{Machine, machine, started, answerTo, after, closing}
+use Rattle.script.specs.declared.Session.{Session}
+
+-- Each line is answered, in order.
+abbrev pub answersTo : Machine → List (List ℕ) → List ℕ
+answersTo m [] = []
+answersTo m (l ∷ ls) = answerLine (answerTo m (readLine l)) ++ answersTo (after m (readLine l)) ls
+
+-- Each line is carried out on what the one before left.
+abbrev pub afterLines : Machine → List (List ℕ) → Machine
+afterLines m [] = m
+afterLines m (l ∷ ls) = afterLines (after m (readLine l)) ls
+
+-- The answers to the lines, then what comes at the end.
+abbrev pub answersAndClosing : Machine → List (List ℕ) → List ℕ
+answersAndClosing m ls = answersTo m ls ++ closing (afterLines m ls)
+
+-- The whole output for an input, whatever the words and bytes that are lent hold.
+abbrev pub transcript : List ℕ → List ℕ → List ℕ → List ℕ
+transcript table arena input = answersAndClosing (machine started table arena) (linesOf input)
+
+-- Of a line whose newline has not come yet the first 81 bytes are held: one more than a line may have.
+abbrev pub mostHeld : ℕ
+mostHeld = 81
+
+-- A session holds what has come of a line.
+abbrev pub held : Session → List ℕ
+held s = take (s .held) (s .line)
+
+-- With a part of the input these are the pieces: the first goes on with what is held, and the last has no newline yet.
+abbrev pub piecesWith : List ℕ → List ℕ → List (List ℕ)
+piecesWith p part = prefixed p (pieces 10 part)
+
+-- What is written for an input that comes in parts, with p held of the line before the first.
+abbrev pub inParts : Machine → List ℕ → List (List ℕ) → List ℕ
+inParts m p [] = answersAndClosing m (unlessEmpty p)
+inParts m p (part ∷ parts) =
+    answersTo m (ended (piecesWith p part))
+    ++ inParts (afterLines m (ended (piecesWith p part))) (take mostHeld (unended (piecesWith p part))) parts
+
+-- Of an input so many bytes are taken at once: no answer has more than 14, so that all answers have room.
+abbrev pub takenOf : List ℕ → List ℕ → ℕ
+takenOf input buffer = min (length input) (length buffer / 14)
