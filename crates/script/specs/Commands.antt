@@ -7,7 +7,7 @@ use lib.Dec.{leb}
 use lib.ListN.{length}
 use Rattle.model.specs.Choose.{choose}
 use Rattle.model.specs.Numbers.{numberOf, initNumberOf}
-use Rattle.script.specs.Text.{fieldsOf, numberIn, same, lineOf}
+use Rattle.script.specs.Text.{ascii, fieldsOf, numberIn, same, lineOf}
 use Rattle.script.specs.declared.Command.{Command}
 use Rattle.script.specs.declared.Command.the-variants.{Limit, Make, Ask, Back, Unreadable}
 use Rattle.script.specs.declared.Answer.{Answer}
@@ -15,16 +15,16 @@ use Rattle.script.specs.declared.Answer.the-variants as answer
 
 -- The commands' words in bytes: `limit`, `make`, `ask`, `back`.
 abbrev pub limitWord : List ℕ
-limitWord = 108 ∷ 105 ∷ 109 ∷ 105 ∷ 116 ∷ []
+limitWord = ascii "limit"
 
 abbrev pub makeWord : List ℕ
-makeWord = 109 ∷ 97 ∷ 107 ∷ 101 ∷ []
+makeWord = ascii "make"
 
 abbrev pub askWord : List ℕ
-askWord = 97 ∷ 115 ∷ 107 ∷ []
+askWord = ascii "ask"
 
 abbrev pub backWord : List ℕ
-backWord = 98 ∷ 97 ∷ 99 ∷ 107 ∷ []
+backWord = ascii "back"
 
 -- A word with three numbers is `limit O G B` or `ask O N A`.
 abbrev pub withThree : List ℕ → Option ℕ → Option ℕ → Option ℕ → Command
@@ -56,16 +56,16 @@ readLine line = choose (leb (length line) 80) (commandOf (fieldsOf line)) Unread
 
 -- The words of the output in bytes: `ok`, `no`, `seg`, `sum`.
 abbrev pub okWord : List ℕ
-okWord = 111 ∷ 107 ∷ []
+okWord = ascii "ok"
 
 abbrev pub noWord : List ℕ
-noWord = 110 ∷ 111 ∷ []
+noWord = ascii "no"
 
 abbrev pub segWord : List ℕ
-segWord = 115 ∷ 101 ∷ 103 ∷ []
+segWord = ascii "seg"
 
 abbrev pub sumWord : List ℕ
-sumWord = 115 ∷ 117 ∷ 109 ∷ []
+sumWord = ascii "sum"
 
 -- An answer is written `ok V` with its value, or `no N` with document 01's number; 14 is a line that cannot be read.
 abbrev pub answerLine : Answer → List ℕ

@@ -50,6 +50,10 @@ started = record { plan = record { «granule_quotas» = calls.zeroHeap .«granul
 abbrev pub mostBytes : ℕ
 mostBytes = 65536
 
+-- For `limit O G B`: 2.
+abbrev pub limitOrder : ℕ → Order Refusal
+limitOrder o = badOwner o ∷ []
+
 -- What an allocation answers is written as its offset.
 abbrev pub placedAnswer : Placed → Answer
 placedAnswer (placed.At x) = answer.Ok x
@@ -93,10 +97,6 @@ module _ (m : Machine) where
   -- It leaves a record, a table and the bytes lent for arenas; every other word that is lent stays.
   abbrev pub leaving : Stored → List ℕ → Machine
   leaving t bs = machine (record { plan = plan; heap = t .heap }) (t .words ++ drop (4 * heap .capacity) (m .table)) bs
-
-  -- For `limit O G B`: 2.
-  abbrev pub limitOrder : ℕ → Order Refusal
-  limitOrder o = badOwner o ∷ []
 
   -- Its quotas take effect at the next make.
   abbrev pub limited : ℕ → ℕ → ℕ → Machine

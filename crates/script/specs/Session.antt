@@ -3,7 +3,7 @@
 use Prim.Native.Nat.{ℕ, _/_, min}
 use mathlib.Core.List.{List, [], _∷_, _++_}
 use lib.ListN.{length, take}
-use Rattle.script.specs.Text.{prefixed, pieces, ended, unended, unlessEmpty, linesOf, atFront}
+use Rattle.script.specs.Text.{prefixed, pieces, ended, unended, unlessEmpty, linesOf}
 use Rattle.script.specs.Commands.{readLine, answerLine}
 use Rattle.script.specs.Machine.{Machine, machine, started, answerTo, after, closing}
 use Rattle.script.specs.declared.Session.{Session}
@@ -44,6 +44,11 @@ inParts m p [] = answersAndClosing m (unlessEmpty p)
 inParts m p (part ∷ parts) =
     answersTo m (ended (piecesWith p part))
     ++ inParts (afterLines m (ended (piecesWith p part))) (take mostHeld (unended (piecesWith p part))) parts
+
+-- The parts one after the other.
+abbrev pub joined : List (List ℕ) → List ℕ
+joined [] = []
+joined (part ∷ parts) = part ++ joined parts
 
 -- Of an input so many bytes are taken at once: no answer has more than 14, so that all answers have room.
 abbrev pub takenOf : List ℕ → List ℕ → ℕ

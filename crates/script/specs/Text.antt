@@ -1,6 +1,8 @@
 -- Bytes as text: the pieces between separators, and numbers in decimal digits, read and written.
 -- Assumes nothing.
 use Prim.Native.Nat.{ℕ, zero, suc, _+_, _-_, _*_, _/_, _%_}
+use Prim.Native.Char.{code}
+use Prim.Native.String.{String, len, charAt}
 use mathlib.Core.Bool.{Bool, true, false}
 use mathlib.Core.List.{List, [], _∷_, _++_}
 use mathlib.Core.Option.{Option, none, some}
@@ -8,6 +10,15 @@ use lib.Dec.{leb, ltb, eqb}
 use lib.ListN.{length, drop}
 use Rattle.model.specs.Choose.{choose, both, every}
 use Rattle.model.specs.Quantities.{within}
+
+-- The n characters of a text from place i on, as bytes.
+abbrev pub bytesFrom : String → ℕ → ℕ → List ℕ
+bytesFrom text i zero = []
+bytesFrom text i (suc n) = code (charAt text i) ∷ bytesFrom text (suc i) n
+
+-- A text in ASCII is a byte for each character.
+abbrev pub ascii : String → List ℕ
+ascii text = bytesFrom text 0 (len text)
 
 -- Bytes that stand before the first piece belong to it.
 abbrev pub prefixed : List ℕ → List (List ℕ) → List (List ℕ)

@@ -538,7 +538,7 @@ fn put_rows(out: &mut [u8], at: usize, table: &[u32], rows: usize) -> usize
 // Puts what comes at the end: nothing if there is no heap.
 fn put_closing(out: &mut [u8], at: usize, script: Script, table: &[u32]) -> usize
     requires { ⌜ at + 25700 ≤ length (now out) ⌝ }
-    ensures { λ r. ⌜ ((bs : List ℕ) → Put (closing (machine script (now (table .entry)) bs)) (now (out .entry)) at r (now (out .exit))) ⌝ }
+    ensures { λ r. ⌜ ((bs : List ℕ) → Put (closing (machine script (now (table .entry)) bs)) (now (out .entry)) at r (now (out .exit))) × (r ≤ at + 25700) ⌝ }
 {
     let heap = script.heap;
     let n = words_in_use(heap.capacity, table.len());
@@ -585,7 +585,7 @@ fn hold(line: [u8; 81], held: u32, part: &[u8]) -> Held
 
 // Reads the line that is held.
 fn read_held(line: [u8; 81], held: u32) -> Command
-    ensures { λ r. ⌜ r ≡ readLine (take held line) ⌝ }
+    ensures { λ r. ⌜ (r ≡ readLine (take held line)) × (length line ≡ 81) ⌝ }
 {
     let n = least(held as usize, 81);
     read_line(&line[..n])

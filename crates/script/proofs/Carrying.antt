@@ -1,0 +1,134 @@
+-- What a command answers and leaves, from what the call of the heap promises of the part that is lent to it.
+-- Assumes nothing.
+use mathlib.Core.Path.{_≡_, refl, sym, ap, _∙_, subst}
+use mathlib.Core.Bool.{Bool, true, false, not}
+use mathlib.Core.List.{List, _++_}
+use mathlib.Core.Option.{Option, none, some}
+use Prim.Native.Nat.{ℕ, _*_, _≤_, min}
+use native.Mathlib.Omega.{arith}
+use lib.Dec.{ltb}
+use lib.ListN.{length, take, drop, take-append-drop}
+use lib.Seq.{length-take-le}
+use Rattle.model.specs.Choose.{either, given}
+use Rattle.model.specs.Quantities.{isArena, isTable, isOwner}
+use Rattle.model.specs.Orders.{firstReason, initOrder}
+use Rattle.model.proofs.Choosing.{split, tests, clash}
+use Rattle.model.proofs.Refusing.{no-reason}
+use Rattle.heap.specs.Promises.{InitDone, AllocDone, FreeDone}
+use Rattle.heap.specs.declared.Initialized.{Initialized}
+use Rattle.heap.specs.declared.Allocated.{Allocated}
+use Rattle.heap.specs.declared.Released.{Released}
+use Rattle.heap.proofs.Making.{none-applies}
+use Rattle.model.specs.declared.Refusal.the-variants as refusal
+use Rattle.model.specs.declared.InitRefusal.{InitRefusal}
+use Rattle.model.specs.declared.Made.the-variants as made
+use Rattle.model.specs.declared.Placed.{Placed}
+use Rattle.model.specs.declared.Freed.{Freed}
+use Rattle.script.specs.Machine.{machine, mostBytes, placedAnswer, freedAnswer, makeOrder}
+use Rattle.script.specs.Promises.{CommandDone}
+use Rattle.script.specs.Steps.{partOf}
+use Rattle.script.proofs.Lists.{at-most}
+use Rattle.script.specs.declared.Script.{Script}
+use Rattle.script.specs.declared.Command.the-variants as command
+use Rattle.script.specs.declared.Answer.the-variants as answer
+
+module _ (s : Script) (ws bs : List ℕ) where
+  -- The quotas of what is no owner stay.
+  pub limit-refused : (o g b : ℕ) → isOwner o ≡ false
+      → CommandDone s ws bs (command.Limit o g b) (record { answer = answer.Refused refusal.BadOwner; script = s }) ws bs
+  limit-refused o g b e = record { answer = rw e; leaves = rw e }
+
+  -- The words that an allocation is lent are the heap's table, and the others stay.
+  pub ask-done : (o n a k : ℕ) → k ≡ min (4 * s .heap .capacity) (length ws) → (out : Allocated) (left : List ℕ) → AllocDone (s .heap) (take k ws) o n a out left
+      → (p : Placed) → out .placed ≡ p
+      → CommandDone s ws bs (command.Ask o n a) (record { answer = placedAnswer p; script = record { plan = s .plan; heap = out .heap } }) (left ++ drop k ws) bs
+  ask-done o n a k e out left d p is =
+      let t = at-most (4 * s .heap .capacity) k ws e in
+      let w : AllocDone (s .heap) (take (4 * s .heap .capacity) ws) o n a out left = subst (λ (l : List ℕ). AllocDone (s .heap) l o n a out left) (t .0) d in
+      record {
+        answer = ap placedAnswer (sym is ∙ w .answer);
+        leaves = λ i. machine (record { plan = s .plan; heap = w .heap i }) (w .table i ++ t .1 i) bs;
+      }
+
+  -- The words and bytes that a free is lent are the heap's, and the others stay.
+  pub back-done : (o x k n : ℕ) → k ≡ min (4 * s .heap .capacity) (length ws) → n ≡ min (16 * s .heap .granules) (length bs)
+      → (out : Released) (words bytes : List ℕ) → FreeDone (s .heap) (take k ws) (take n bs) o x out words bytes
+      → (p : Freed) → out .freed ≡ p
+      → CommandDone s ws bs (command.Back o x) (record { answer = freedAnswer p; script = record { plan = s .plan; heap = out .heap } }) (words ++ drop k ws) (bytes ++ drop n bs)
+  back-done o x k n e f out words bytes d p is =
+      let t = at-most (4 * s .heap .capacity) k ws e in
+      let u = at-most (16 * s .heap .granules) n bs f in
+      let w : FreeDone (s .heap) (take (4 * s .heap .capacity) ws) (take (16 * s .heap .granules) bs) o x out words bytes =
+      subst (λ (l : List ℕ × List ℕ). FreeDone (s .heap) (l .0) (l .1) o x out words bytes) (λ i. (t .0 i, u .0 i)) d in
+      record {
+        answer = ap freedAnswer (sym is ∙ w .answer);
+        leaves = λ i. machine (record { plan = s .plan; heap = w .heap i }) (w .table i ++ t .1 i) (w .arena i ++ u .1 i);
+      }
+
+-- One of two tests holds if the second does.
+pub either-true : (t u : Bool) → u ≡ true → either t u ≡ true
+either-true true u e = refl
+either-true false u e = e
+
+-- If the second does not, the first decides.
+pub either-false : (t u : Bool) → u ≡ false → either t u ≡ t
+either-false true u e = refl
+either-false false u e = e
+
+-- A test that does not hold of 0 holds of the length of a part exactly if it holds of the number asked for, and there are so many.
+part-test : (p : ℕ → Bool) → p 0 ≡ false → (b m : ℕ) (l : List ℕ) → m ≤ length l → either (not (p b)) (ltb m b) ≡ not (p (length (take (partOf b m) l)))
+part-test p nothing b m l h =
+    split (ltb m b)
+    (λ q. either-true (not (p b)) (ltb m b) q ∙ rw (q, nothing))
+    (λ q. let z : length (take b l) ≡ b = length-take-le b l (omega tests) in either-false (not (p b)) (ltb m b) q ∙ rw (q, z))
+
+-- If there are so many, the part has so many.
+part-whole : (t : Bool) (b m : ℕ) → either t (ltb m b) ≡ false → partOf b m ≡ b
+part-whole t b m e = split (ltb m b) (λ q. absurd (clash (either t (ltb m b)) (either-true t (ltb m b) q) e)) (λ q. rw q)
+
+-- The reason that was found is the one that a making answers.
+reason-is : (found : Option InitRefusal) (why : InitRefusal) → given found made.Done made.Refused ≡ made.Refused why → found ≡ some why
+reason-is none why e = let z : _≡_ {A = ℕ} 0 1 = cc in absurd (omega arith)
+reason-is (some r) why e = cc
+
+-- A make of b bytes and r rows.
+module _ (s : Script) (ws bs : List ℕ) (b r n k : ℕ) (bytes-part : n ≡ partOf b (min mostBytes (length bs))) (words-part : k ≡ partOf (4 * r) (length ws)) where
+  -- Its order finds the reason that the order of the making finds in the parts that are handed on.
+  pub same-reason : firstReason (makeOrder (machine s ws bs) b r) ≡ firstReason (initOrder (take n bs) (take k ws) (s .plan))
+  unfolding makeOrder initOrder
+  same-reason =
+      rw (bytes-part, words-part, part-test isArena refl b (min mostBytes (length bs)) bs (omega arith), part-test isTable refl (4 * r) (length ws) ws (omega arith))
+
+  -- If it finds none, the parts have so many bytes and so many rows.
+  pub parts-whole : firstReason (makeOrder (machine s ws bs) b r) ≡ none → (n ≡ b) × (k ≡ 4 * r)
+  unfolding makeOrder
+  parts-whole q =
+      let free = no-reason (makeOrder (machine s ws bs) b r) q in
+      (bytes-part ∙ part-whole (not (isArena b)) b (min mostBytes (length bs)) (free .0), words-part ∙ part-whole (not (isTable (4 * r))) (4 * r) (length ws) (free .1 .0))
+
+  module _ (out : Initialized) (bytes words : List ℕ) (d : InitDone (take n bs) (take k ws) (s .plan) out bytes words) where
+    -- Refused, the parts come back as they were.
+    pub make-refused : (why : InitRefusal) → out .made ≡ made.Refused why
+        → CommandDone s ws bs (command.Make b r) (record { answer = answer.NotMade why; script = s }) (words ++ drop k ws) (bytes ++ drop n bs)
+    make-refused why e =
+        let q : firstReason (initOrder (take n bs) (take k ws) (s .plan)) ≡ some why = reason-is _ why (sym (d .answer) ∙ e) in
+        let table : words ≡ take k ws = rw q at (d .table) in
+        let arena : bytes ≡ take n bs = rw q at (d .arena) in
+        record {
+          answer = rw (same-reason, q);
+          leaves = rw (same-reason, q, table, arena, take-append-drop k ws, take-append-drop n bs);
+        }
+
+    -- Done, the parts are the first b bytes and the first r rows.
+    pub make-done : out .made ≡ made.Done
+        → CommandDone s ws bs (command.Make b r) (record { answer = answer.Ok b; script = record { plan = s .plan; heap = out .heap } }) (words ++ drop k ws) (bytes ++ drop n bs)
+    make-done e =
+        let q : firstReason (makeOrder (machine s ws bs) b r) ≡ none = same-reason ∙ none-applies _ _ _ (sym (d .answer) ∙ e) in
+        let whole : (n ≡ b) × (k ≡ 4 * r) = parts-whole q in
+        let w : InitDone (take b bs) (take (4 * r) ws) (s .plan) out bytes words =
+        subst (λ (l : ℕ × ℕ). InitDone (take (l .0) bs) (take (l .1) ws) (s .plan) out bytes words) (λ i. (whole .0 i, whole .1 i)) d in
+        record {
+          answer = rw q;
+          leaves =
+              rw q (λ i. machine (record { plan = s .plan; heap = w .heap i }) (w .table i ++ drop (whole .1 i) ws) (w .arena i ++ drop (whole .0 i) bs));
+        }

@@ -1,0 +1,79 @@
+-- `script::back` meets its contract.
+-- Assumes nothing.
+use native.Mathlib.Omega.{arith}
+use borrow.Author.Needs.{needs}
+use lib.ListN.{length-take}
+use Rattle.script.proofs.Carrying.{back-done}
+use Rattle.script.proofs.back.Statement.{statement}
+use Rattle.script.proofs.back.Tie as tie
+
+words-in-use-requires : tie.Need-words-in-use-requires
+words-in-use-requires c κs = search needs
+
+bytes-in-use-requires : tie.Need-bytes-in-use-requires
+bytes-in-use-requires c κs = search needs
+
+slice-relend-prefix-free : tie.Need-slice-relend-prefix-free
+slice-relend-prefix-free c = search needs
+
+slice-aggregate-free : tie.Need-slice-aggregate-free
+slice-aggregate-free c = rw length-take (omega arith)
+
+slice-relend-prefix-free-2 : tie.Need-slice-relend-prefix-free-2
+slice-relend-prefix-free-2 c = search needs
+
+slice-aggregate-free-2 : tie.Need-slice-aggregate-free-2
+slice-aggregate-free-2 c = rw length-take (omega arith)
+
+free-requires : tie.Need-free-requires
+free-requires c κs = search needs
+
+enum-known-freed : tie.Need-enum-known-freed
+enum-known-freed c = search needs
+
+enum-known-freed-2 : tie.Need-enum-known-freed-2
+enum-known-freed-2 c = search needs
+
+same-length : tie.Need-same-length
+same-length c = search needs
+
+same-length-2 : tie.Need-same-length-2
+same-length-2 c = search needs
+
+returns : tie.Need-returns
+returns c =
+    let d = c .before .before .before .before .before .before .before .before .before in
+    let b = d .before .before .before in
+    back-done _ _ _ _ _ _ _ (b .before .words-in-use .ensures) (b .bytes-in-use .ensures) _ _ _ (d .free .ensures) _ (c .before .freed .given .1)
+
+same-length-3 : tie.Need-same-length-3
+same-length-3 c = search needs
+
+same-length-4 : tie.Need-same-length-4
+same-length-4 c = search needs
+
+returns-2 : tie.Need-returns-2
+returns-2 c =
+    let d = c .before .before .before .before .before .before .before .before .before in
+    let b = d .before .before .before in
+    back-done _ _ _ _ _ _ _ (b .before .words-in-use .ensures) (b .bytes-in-use .ensures) _ _ _ (d .free .ensures) _ (c .before .freed2 .given .1)
+
+pub back-spec : {M : Type 1} → statement M
+back-spec =
+    tie.close
+    (tie.spec
+    words-in-use-requires
+    bytes-in-use-requires
+    slice-relend-prefix-free
+    slice-aggregate-free
+    slice-relend-prefix-free-2
+    slice-aggregate-free-2
+    free-requires
+    enum-known-freed
+    enum-known-freed-2
+    same-length
+    same-length-2
+    returns
+    same-length-3
+    same-length-4
+    returns-2)
