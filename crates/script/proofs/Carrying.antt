@@ -22,13 +22,12 @@ use Rattle.heap.proofs.Making.{none-applies}
 use Rattle.model.specs.declared.Refusal.the-variants as refusal
 use Rattle.model.specs.declared.InitRefusal.{InitRefusal}
 use Rattle.model.specs.declared.Made.the-variants as made
-use Rattle.model.specs.declared.Placed.{Placed}
-use Rattle.model.specs.declared.Freed.{Freed}
-use Rattle.script.specs.Machine.{machine, mostBytes, placedAnswer, freedAnswer, makeOrder}
+use Rattle.script.specs.Machine.{machine, withHeap, mostBytes, placedAnswer, freedAnswer, makeOrder}
 use Rattle.script.specs.Promises.{CommandDone}
 use Rattle.script.specs.Steps.{partOf}
 use Rattle.script.proofs.Lists.{at-most}
 use Rattle.script.specs.declared.Script.{Script}
+use Rattle.script.specs.declared.Carried.{Carried}
 use Rattle.script.specs.declared.Command.the-variants as command
 use Rattle.script.specs.declared.Answer.the-variants as answer
 
@@ -40,29 +39,29 @@ module _ (s : Script) (ws bs : List ℕ) where
 
   -- The words that an allocation is lent are the heap's table, and the others stay.
   pub ask-done : (o n a k : ℕ) → k ≡ min (4 * s .heap .capacity) (length ws) → (out : Allocated) (left : List ℕ) → AllocDone (s .heap) (take k ws) o n a out left
-      → (p : Placed) → out .placed ≡ p
-      → CommandDone s ws bs (command.Ask o n a) (record { answer = placedAnswer p; script = record { plan = s .plan; heap = out .heap } }) (left ++ drop k ws) bs
-  ask-done o n a k e out left d p is =
+      → (r : Carried) → r .answer ≡ placedAnswer (out .placed) → r .script ≡ withHeap s (out .heap)
+      → CommandDone s ws bs (command.Ask o n a) r (left ++ drop k ws) bs
+  ask-done o n a k e out left d r is then =
       let t = at-most (4 * s .heap .capacity) k ws e in
       let w : AllocDone (s .heap) (take (4 * s .heap .capacity) ws) o n a out left = subst (λ (l : List ℕ). AllocDone (s .heap) l o n a out left) (t .0) d in
       record {
-        answer = ap placedAnswer (sym is ∙ w .answer);
-        leaves = λ i. machine (record { plan = s .plan; heap = w .heap i }) (w .table i ++ t .1 i) bs;
+        answer = is ∙ ap placedAnswer (w .answer);
+        leaves = rw then (λ i. machine (withHeap s (w .heap i)) (w .table i ++ t .1 i) bs);
       }
 
   -- The words and bytes that a free is lent are the heap's, and the others stay.
   pub back-done : (o x k n : ℕ) → k ≡ min (4 * s .heap .capacity) (length ws) → n ≡ min (16 * s .heap .granules) (length bs)
       → (out : Released) (words bytes : List ℕ) → FreeDone (s .heap) (take k ws) (take n bs) o x out words bytes
-      → (p : Freed) → out .freed ≡ p
-      → CommandDone s ws bs (command.Back o x) (record { answer = freedAnswer p; script = record { plan = s .plan; heap = out .heap } }) (words ++ drop k ws) (bytes ++ drop n bs)
-  back-done o x k n e f out words bytes d p is =
+      → (r : Carried) → r .answer ≡ freedAnswer (out .freed) → r .script ≡ withHeap s (out .heap)
+      → CommandDone s ws bs (command.Back o x) r (words ++ drop k ws) (bytes ++ drop n bs)
+  back-done o x k n e f out words bytes d r is then =
       let t = at-most (4 * s .heap .capacity) k ws e in
       let u = at-most (16 * s .heap .granules) n bs f in
       let w : FreeDone (s .heap) (take (4 * s .heap .capacity) ws) (take (16 * s .heap .granules) bs) o x out words bytes =
       subst (λ (l : List ℕ × List ℕ). FreeDone (s .heap) (l .0) (l .1) o x out words bytes) (λ i. (t .0 i, u .0 i)) d in
       record {
-        answer = ap freedAnswer (sym is ∙ w .answer);
-        leaves = λ i. machine (record { plan = s .plan; heap = w .heap i }) (w .table i ++ t .1 i) (w .arena i ++ u .1 i);
+        answer = is ∙ ap freedAnswer (w .answer);
+        leaves = rw then (λ i. machine (withHeap s (w .heap i)) (w .table i ++ t .1 i) (w .arena i ++ u .1 i));
       }
 
 -- One of two tests holds if the second does.
@@ -121,8 +120,9 @@ module _ (s : Script) (ws bs : List ℕ) (b r n k : ℕ) (bytes-part : n ≡ par
 
     -- Done, the parts are the first b bytes and the first r rows.
     pub make-done : out .made ≡ made.Done
-        → CommandDone s ws bs (command.Make b r) (record { answer = answer.Ok b; script = record { plan = s .plan; heap = out .heap } }) (words ++ drop k ws) (bytes ++ drop n bs)
-    make-done e =
+        → (then : Script) → then ≡ withHeap s (out .heap)
+        → CommandDone s ws bs (command.Make b r) (record { answer = answer.Ok b; script = then }) (words ++ drop k ws) (bytes ++ drop n bs)
+    make-done e then h =
         let q : firstReason (makeOrder (machine s ws bs) b r) ≡ none = same-reason ∙ none-applies _ _ _ (sym (d .answer) ∙ e) in
         let whole : (n ≡ b) × (k ≡ 4 * r) = parts-whole q in
         let w : InitDone (take b bs) (take (4 * r) ws) (s .plan) out bytes words =
@@ -130,5 +130,5 @@ module _ (s : Script) (ws bs : List ℕ) (b r n k : ℕ) (bytes-part : n ≡ par
         record {
           answer = rw q;
           leaves =
-              rw q (λ i. machine (record { plan = s .plan; heap = w .heap i }) (w .table i ++ drop (whole .1 i) ws) (w .arena i ++ drop (whole .0 i) bs));
+              rw (q, h) (λ i. machine (withHeap s (w .heap i)) (w .table i ++ drop (whole .1 i) ws) (w .arena i ++ drop (whole .0 i) bs));
         }

@@ -28,8 +28,8 @@ use Rattle.heap.proofs.StoredValid.{stored-valid}
 use Rattle.heap.proofs.ValidStored.{valid-kept, valid-range}
 use Rattle.heap.proofs.Making.{init-leaves, init-range, fresh-kept, zero-invalid}
 use Rattle.heap.proofs.Laws.{alloc-invalid, free-invalid}
-use Rattle.script.specs.Text.{pieces, ended, unended, isDigit, valueFrom, valueOf, numberIn, digitsWithin, decimal, spaced, lineOf}
-use Rattle.script.specs.Commands.{readLine, answerLine, okWord, noWord}
+use Rattle.script.specs.Text.{ascii, pieces, ended, unended, isDigit, valueFrom, valueOf, numberIn, digitsWithin, decimal, spaced, lineOf}
+use Rattle.script.specs.Commands.{readLine, answerLine}
 use Rattle.script.specs.Machine.{Machine, machine, started, mostBytes, segLines, plan, heap, words, bytes, stored, leaving, limitOrder, makeOrder, made, answerTo, after, closing}
 use Rattle.script.specs.Session.{answersTo, afterLines, takenOf}
 use Rattle.script.specs.Steps.{partOf}
@@ -115,10 +115,10 @@ line-piece word ns rest h =
 
 -- An answer's line is a piece.
 answer-piece : (a : Answer) (rest : List ℕ) → (text : List ℕ) × (pieces 10 (answerLine a ++ rest) ≡ text ∷ pieces 10 rest)
-answer-piece (answer.Ok v) rest = (_, line-piece okWord (v ∷ []) rest refl)
-answer-piece (answer.Refused r) rest = (_, line-piece noWord (numberOf r ∷ []) rest refl)
-answer-piece (answer.NotMade r) rest = (_, line-piece noWord (initNumberOf r ∷ []) rest refl)
-answer-piece answer.Unreadable rest = (_, line-piece noWord (14 ∷ []) rest refl)
+answer-piece (answer.Ok v) rest = (_, line-piece (ascii "ok") (v ∷ []) rest refl)
+answer-piece (answer.Refused r) rest = (_, line-piece (ascii "no") (numberOf r ∷ []) rest refl)
+answer-piece (answer.NotMade r) rest = (_, line-piece (ascii "no") (initNumberOf r ∷ []) rest refl)
+answer-piece answer.Unreadable rest = (_, line-piece (ascii "no") (14 ∷ []) rest refl)
 
 -- The answers are as many lines as there were, and then nothing.
 answers-pieces : (m : Machine) (ls : List (List ℕ)) → (length (ended (pieces 10 (answersTo m ls))) ≡ length ls) × (unended (pieces 10 (answersTo m ls)) ≡ [])

@@ -15,8 +15,8 @@ use Rattle.model.specs.Choose.{every}
 use Rattle.model.specs.Quantities.{within}
 use Rattle.model.proofs.Choosing.{split, splitOption, both-left, both-right, parts, every-head}
 use Rattle.model.proofs.Ranges.{within-least, within-most, bounds-within}
-use Rattle.script.specs.Text.{pieces, isDigit, valueFrom, valueOf, isNumber, numberIn, same}
-use Rattle.script.specs.Commands.{limitWord, makeWord, askWord, backWord, withTwo, withThree, commandOf, readLine}
+use Rattle.script.specs.Text.{ascii, pieces, isDigit, valueFrom, valueOf, isNumber, numberIn, same}
+use Rattle.script.specs.Commands.{withTwo, withThree, commandOf, readLine}
 use Rattle.script.specs.Steps.{before, following, numberRead, withNumber, numbersRead, wordRead, commandOfTwo, commandOfThree, commandFor}
 use Rattle.script.proofs.Lists.{rest-part}
 use Rattle.script.specs.declared.Command.the-variants as command
@@ -156,13 +156,13 @@ unreadable-read [] = refl
 unreadable-read (f ∷ fs) = rw (unreadable-with (numberIn f)) (unreadable-read fs)
 
 -- What holds of each command's word, and of a text that is none of them, holds of every text.
-by-word : (G : List ℕ → Type 0) → G limitWord → G makeWord → G askWord → G backWord
-    → ((w : List ℕ) → same w limitWord ≡ false → same w makeWord ≡ false → same w askWord ≡ false → same w backWord ≡ false → G w)
+by-word : (G : List ℕ → Type 0) → G (ascii "limit") → G (ascii "make") → G (ascii "ask") → G (ascii "back")
+    → ((w : List ℕ) → same w (ascii "limit") ≡ false → same w (ascii "make") ≡ false → same w (ascii "ask") ≡ false → same w (ascii "back") ≡ false → G w)
     → (w : List ℕ) → G w
 by-word G l m a b o w =
     let is : (v : List ℕ) → G v → same w v ≡ true → G w = λ v g q. subst G (sym (same-equal w v q)) g in
-    split (same w limitWord) (is limitWord l) (λ p. split (same w makeWord) (is makeWord m)
-    (λ q. split (same w askWord) (is askWord a) (λ r. split (same w backWord) (is backWord b) (o w p q r))))
+    split (same w (ascii "limit")) (is (ascii "limit") l) (λ p. split (same w (ascii "make")) (is (ascii "make") m)
+    (λ q. split (same w (ascii "ask")) (is (ascii "ask") a) (λ r. split (same w (ascii "back")) (is (ascii "back") b) (o w p q r))))
 
 -- A word with two numbers.
 two-numbers : (w : List ℕ) (x y : Option ℕ) → withTwo w x y ≡ commandFor (wordRead w) (withNumber (withNumber Zero x) y)

@@ -13,8 +13,7 @@ use borrow.Author.Tests.{lt-ltb, le-ltb}
 use Rattle.model.specs.Choose.{choose, total}
 use Rattle.model.specs.Orders.{totalsOrder}
 use Rattle.model.proofs.Choosing.{split, tests}
-use Rattle.script.specs.Text.{digitsWithin, decimal, spaced, lineOf}
-use Rattle.script.specs.Commands.{sumWord}
+use Rattle.script.specs.Text.{ascii, digitsWithin, decimal, spaced, lineOf}
 use Rattle.script.specs.Machine.{machine, segLine, segLines, closing, closingWith}
 use Rattle.script.specs.Steps.{Put}
 use Rattle.segments.specs.Rows.{segmentAt, segmentsIn}
@@ -178,9 +177,9 @@ module _ (s : Script) (table : List ℕ) (n : ℕ) (lent : n ≡ min (4 * s .hea
 
     -- The rows are written then, and the totals.
     pub closing-rows : {buffer mid after : List ℕ} {at p q : ℕ} → Put (segLines (segmentsIn (s .heap .rows) (take n table))) buffer at p mid
-        → Put (lineOf sumWord (used ∷ free ∷ peak ∷ longest ∷ [])) mid p q after → (bs : List ℕ) → Put (closing (machine s table bs)) buffer at q after
+        → Put (lineOf (ascii "sum") (used ∷ free ∷ peak ∷ longest ∷ [])) mid p q after → (bs : List ℕ) → Put (closing (machine s table bs)) buffer at q after
     closing-rows f g bs =
         put-same
-        (ap (λ ws. segLines (segmentsIn (s .heap .rows) ws) ++ lineOf sumWord (used ∷ free ∷ peak ∷ longest ∷ [])) lent-words
+        (ap (λ ws. segLines (segmentsIn (s .heap .rows) ws) ++ lineOf (ascii "sum") (used ∷ free ∷ peak ∷ longest ∷ [])) lent-words
         ∙ sym (closing-told t done bs ∙ ap (closingWith (machine s table bs)) e))
         (put-append f g)

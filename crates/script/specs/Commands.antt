@@ -13,23 +13,10 @@ use Rattle.script.specs.declared.Command.the-variants.{Limit, Make, Ask,
 use Rattle.script.specs.declared.Answer.{Answer}
 use Rattle.script.specs.declared.Answer.the-variants as answer
 
--- The commands' words in bytes: `limit`, `make`, `ask`, `back`.
-abbrev pub limitWord : List ℕ
-limitWord = ascii "limit"
-
-abbrev pub makeWord : List ℕ
-makeWord = ascii "make"
-
-abbrev pub askWord : List ℕ
-askWord = ascii "ask"
-
-abbrev pub backWord : List ℕ
-backWord = ascii "back"
-
 -- A word with three numbers is `limit O G B` or `ask O N A`.
 abbrev pub withThree : List ℕ → Option ℕ → Option ℕ → Option ℕ → Command
 withThree w (some a) (some b) (some c) =
-    choose (same w limitWord) (Limit a b c) (choose (same w askWord) (Ask a b c) Unreadable)
+    choose (same w (ascii "limit")) (Limit a b c) (choose (same w (ascii "ask")) (Ask a b c) Unreadable)
 withThree w (some a) (some b) none = Unreadable
 withThree w (some a) none c = Unreadable
 withThree w none b c = Unreadable
@@ -37,7 +24,7 @@ withThree w none b c = Unreadable
 -- A word with two numbers is `make BYTES ROWS` or `back O OFFSET`.
 abbrev pub withTwo : List ℕ → Option ℕ → Option ℕ → Command
 withTwo w (some a) (some b) =
-    choose (same w makeWord) (Make a b) (choose (same w backWord) (Back a b) Unreadable)
+    choose (same w (ascii "make")) (Make a b) (choose (same w (ascii "back")) (Back a b) Unreadable)
 withTwo w (some a) none = Unreadable
 withTwo w none b = Unreadable
 
@@ -54,22 +41,9 @@ commandOf (w ∷ a ∷ b ∷ c ∷ d ∷ fs) = Unreadable
 unfoldable pub readLine : List ℕ → Command
 readLine line = choose (leb (length line) 80) (commandOf (fieldsOf line)) Unreadable
 
--- The words of the output in bytes: `ok`, `no`, `seg`, `sum`.
-abbrev pub okWord : List ℕ
-okWord = ascii "ok"
-
-abbrev pub noWord : List ℕ
-noWord = ascii "no"
-
-abbrev pub segWord : List ℕ
-segWord = ascii "seg"
-
-abbrev pub sumWord : List ℕ
-sumWord = ascii "sum"
-
 -- An answer is written `ok V` with its value, or `no N` with document 01's number; 14 is a line that cannot be read.
 abbrev pub answerLine : Answer → List ℕ
-answerLine (answer.Ok v) = lineOf okWord (v ∷ [])
-answerLine (answer.Refused r) = lineOf noWord (numberOf r ∷ [])
-answerLine (answer.NotMade r) = lineOf noWord (initNumberOf r ∷ [])
-answerLine answer.Unreadable = lineOf noWord (14 ∷ [])
+answerLine (answer.Ok v) = lineOf (ascii "ok") (v ∷ [])
+answerLine (answer.Refused r) = lineOf (ascii "no") (numberOf r ∷ [])
+answerLine (answer.NotMade r) = lineOf (ascii "no") (initNumberOf r ∷ [])
+answerLine answer.Unreadable = lineOf (ascii "no") (14 ∷ [])

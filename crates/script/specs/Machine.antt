@@ -12,8 +12,7 @@ use Rattle.model.specs.Orders.{Order, unless}
 use Rattle.segments.specs.Rows.{segmentsIn}
 use Rattle.heap.specs.Stored.{Stored, handed}
 use Rattle.heap.specs.Calls as calls
-use Rattle.script.specs.Text.{lineOf}
-use Rattle.script.specs.Commands.{segWord, sumWord}
+use Rattle.script.specs.Text.{ascii, lineOf}
 use Rattle.model.specs.declared.Plan.{Plan}
 use Rattle.model.specs.declared.Segment.{Segment}
 use Rattle.model.specs.declared.Refusal.{Refusal}
@@ -46,6 +45,10 @@ machine s ws bs = record { script = s; table = ws; arena = bs }
 abbrev pub started : Script
 started = record { plan = record { «granule_quotas» = calls.zeroHeap .«granule_quotas»; «block_quotas» = calls.zeroHeap .«block_quotas» }; heap = calls.zeroHeap }
 
+-- A call on the heap leaves its record; the quotas for the next make stay.
+abbrev pub withHeap : Script → Heap → Script
+withHeap s r = record { plan = s .plan; heap = r }
+
 -- A make refuses more than so many bytes, whatever is lent.
 abbrev pub mostBytes : ℕ
 mostBytes = 65536
@@ -66,7 +69,7 @@ freedAnswer (freed.Refused r) = answer.Refused r
 
 -- A row is written in bytes: start, length, owner, bytes requested.
 abbrev pub segLine : Segment → List ℕ
-segLine x = lineOf segWord (16 * x .start ∷ 16 * x .length ∷ x .owner ∷ x .requested ∷ [])
+segLine x = lineOf (ascii "seg") (16 * x .start ∷ 16 * x .length ∷ x .owner ∷ x .requested ∷ [])
 
 -- The rows are written one after the other.
 abbrev pub segLines : List Segment → List ℕ
@@ -96,7 +99,7 @@ module _ (m : Machine) where
 
   -- It leaves a record, a table and the bytes lent for arenas; every other word that is lent stays.
   abbrev pub leaving : Stored → List ℕ → Machine
-  leaving t bs = machine (record { plan = plan; heap = t .heap }) (t .words ++ drop (4 * heap .capacity) (m .table)) bs
+  leaving t bs = machine (withHeap (m .script) (t .heap)) (t .words ++ drop (4 * heap .capacity) (m .table)) bs
 
   -- Its quotas take effect at the next make.
   abbrev pub limited : ℕ → ℕ → ℕ → Machine
@@ -121,7 +124,7 @@ module _ (m : Machine) where
   abbrev pub made : ℕ → ℕ → Machine
   made b r =
       machine
-      (record { plan = plan; heap = calls.afterInit (take b (m .arena)) (take (4 * r) (m .table)) plan .heap })
+      (withHeap (m .script) (calls.afterInit (take b (m .arena)) (take (4 * r) (m .table)) plan .heap))
       (calls.afterInit (take b (m .arena)) (take (4 * r) (m .table)) plan .words ++ drop (4 * r) (m .table))
       (calls.arenaAfterInit (take b (m .arena)) (take (4 * r) (m .table)) plan ++ drop b (m .arena))
 
@@ -145,7 +148,7 @@ module _ (m : Machine) where
   -- At the end come the rows in use, then `sum` with the totals.
   abbrev pub closingWith : Totals → List ℕ
   closingWith (totals.Bytes used free peak longest) =
-      segLines (segmentsIn (heap .rows) words) ++ lineOf sumWord (used ∷ free ∷ peak ∷ longest ∷ [])
+      segLines (segmentsIn (heap .rows) words) ++ lineOf (ascii "sum") (used ∷ free ∷ peak ∷ longest ∷ [])
   closingWith (totals.Refused r) = []
 
   -- There is a heap if its totals are not refused, that is, if it is valid (`proofs/Laws`: exactly if some make was granted).

@@ -8,8 +8,8 @@ use lib.Dec.{ltb, eqb}
 use lib.ListN.{length, take}
 use lib.Seq.{sets}
 use Rattle.model.specs.Choose.{choose}
-use Rattle.script.specs.Text.{pieces, numberIn, same, atFront}
-use Rattle.script.specs.Commands.{limitWord, makeWord, askWord, backWord, answerLine}
+use Rattle.script.specs.Text.{ascii, pieces, numberIn, same, atFront}
+use Rattle.script.specs.Commands.{answerLine}
 use Rattle.script.specs.Machine.{machine, answerTo, after}
 use Rattle.script.specs.Session.{mostHeld}
 use Rattle.script.specs.declared.Script.{Script}
@@ -56,8 +56,8 @@ numbersRead found (f ∷ fs) = numbersRead (withNumber found (numberIn f)) fs
 -- The word that was read.
 abbrev pub wordRead : List ℕ → Word
 wordRead w =
-    choose (same w limitWord) word.Limit
-    (choose (same w makeWord) word.Make (choose (same w askWord) word.Ask (choose (same w backWord) word.Back word.Other)))
+    choose (same w (ascii "limit")) word.Limit
+    (choose (same w (ascii "make")) word.Make (choose (same w (ascii "ask")) word.Ask (choose (same w (ascii "back")) word.Back word.Other)))
 
 -- The command of a word with two numbers.
 abbrev pub commandOfTwo : Word → ℕ → ℕ → Command

@@ -7,11 +7,12 @@ ghost use lib.ListN.{length, take, replicate};
 ghost use Rattle.segments.specs.Rows.{segmentsIn};
 ghost use Rattle.script.specs.Text.{numberIn, same, decimal, spaced, lineOf};
 ghost use Rattle.script.specs.Commands.{readLine, answerLine};
-ghost use Rattle.script.specs.Machine.{machine, mostBytes, started, segLines, closing};
+ghost use Rattle.script.specs.Machine.{machine, mostBytes, started, withHeap, placedAnswer, freedAnswer, segLines, closing};
 ghost use Rattle.script.specs.Session.{mostHeld};
 ghost use Rattle.script.specs.Promises.{CommandDone, FeedDone, FinishDone};
 ghost use Rattle.script.specs.Steps.{before, following, numberRead, withNumber, numbersRead, wordRead, commandFor, partOf, Put, heldWith, AnswerDone};
 use heap::Heap;
+use heap::is_owner;
 use model::Freed;
 use model::InitRefusal;
 use model::Made;
@@ -279,13 +280,7 @@ fn least(a: usize, b: usize) -> usize
 fn limit(script: Script, owner: u32, granules: u32, blocks: u32) -> Carried
     ensures { λ r. ⌜ ((ws bs : List ℕ) → CommandDone script ws bs (Command.Limit owner granules blocks) r ws bs) ⌝ }
 {
-    if owner < 1 {
-        return Carried {
-            answer: Answer::Refused(Refusal::BadOwner),
-            script: script,
-        };
-    }
-    if 8 < owner {
+    if !is_owner(owner) {
         return Carried {
             answer: Answer::Refused(Refusal::BadOwner),
             script: script,
@@ -332,10 +327,9 @@ fn make(script: Script, table: &mut [u32], arena: &mut [u8], bytes: u32, rows: u
 {
     let n = arena_part(bytes, arena.len());
     let k = table_part(rows, table.len());
-    let plan = script.plan;
-    let out = heap::init(&mut arena[..n], &mut table[..k], plan);
+    let out = heap::init(&mut arena[..n], &mut table[..k], script.plan);
     let made = out.made;
-    let heap = out.heap;
+    let left = out.heap;
     match made {
         Made::Refused(why) => Carried {
             answer: Answer::NotMade(why),
@@ -343,10 +337,7 @@ fn make(script: Script, table: &mut [u32], arena: &mut [u8], bytes: u32, rows: u
         },
         Made::Done => Carried {
             answer: Answer::Ok(bytes),
-            script: Script {
-                plan: plan,
-                heap: heap,
-            },
+            script: with_heap(script, left),
         },
     }
 }
@@ -367,7 +358,38 @@ fn bytes_in_use(granules: u32, lent: usize) -> usize
     if lent / 16 < n { lent } else { 16 * n }
 }
 
-// `ask O N A`: an allocation.
+// What an allocation answers, as the answer to a line.
+fn placed_answer(placed: Placed) -> Answer
+    ensures { λ r. ⌜ r ≡ placedAnswer placed ⌝ }
+{
+    match placed {
+        Placed::At(offset) => Answer::Ok(offset),
+        Placed::Refused(why) => Answer::Refused(why),
+    }
+}
+
+// What a free answers, as the answer to a line.
+fn freed_answer(freed: Freed) -> Answer
+    ensures { λ r. ⌜ r ≡ freedAnswer freed ⌝ }
+{
+    match freed {
+        Freed::Bytes(bytes) => Answer::Ok(bytes),
+        Freed::Refused(why) => Answer::Refused(why),
+    }
+}
+
+// The script with another record of its heap.
+fn with_heap(script: Script, heap: Heap) -> Script
+    ensures { λ r. ⌜ r ≡ withHeap script heap ⌝ }
+{
+    let plan = script.plan;
+    Script {
+        plan: plan,
+        heap: heap,
+    }
+}
+
+// `ask O N A`: an allocation. Refused with 1 to 8, in this order.
 fn ask(script: Script, table: &mut [u32], owner: u32, size: u32, align: u32) -> Carried
     ensures { λ r. ⌜ ((bs : List ℕ) → CommandDone script (now (table .entry)) bs (Command.Ask owner size align) r (now (table .exit)) bs) ⌝ }
 {
@@ -375,25 +397,14 @@ fn ask(script: Script, table: &mut [u32], owner: u32, size: u32, align: u32) -> 
     let n = words_in_use(heap.capacity, table.len());
     let out = heap::alloc_aligned(heap, &mut table[..n], owner, size, align);
     let placed = out.placed;
-    let plan = script.plan;
     let left = out.heap;
-    let after = Script {
-        plan: plan,
-        heap: left,
-    };
-    match placed {
-        Placed::At(offset) => Carried {
-            answer: Answer::Ok(offset),
-            script: after,
-        },
-        Placed::Refused(why) => Carried {
-            answer: Answer::Refused(why),
-            script: after,
-        },
+    Carried {
+        answer: placed_answer(placed),
+        script: with_heap(script, left),
     }
 }
 
-// `back O OFFSET`: a free.
+// `back O OFFSET`: a free. Refused with 1, 2, 9, 10, in this order: the arena is the one recorded, unless the record is not valid.
 fn back(script: Script, table: &mut [u32], arena: &mut [u8], owner: u32, offset: u32) -> Carried
     ensures { λ r. ⌜ CommandDone script (now (table .entry)) (now (arena .entry)) (Command.Back owner offset) r (now (table .exit)) (now (arena .exit)) ⌝ }
 {
@@ -402,21 +413,10 @@ fn back(script: Script, table: &mut [u32], arena: &mut [u8], owner: u32, offset:
     let k = bytes_in_use(heap.granules, arena.len());
     let out = heap::free(heap, &mut table[..n], &mut arena[..k], owner, offset);
     let freed = out.freed;
-    let plan = script.plan;
     let left = out.heap;
-    let after = Script {
-        plan: plan,
-        heap: left,
-    };
-    match freed {
-        Freed::Bytes(bytes) => Carried {
-            answer: Answer::Ok(bytes),
-            script: after,
-        },
-        Freed::Refused(why) => Carried {
-            answer: Answer::Refused(why),
-            script: after,
-        },
+    Carried {
+        answer: freed_answer(freed),
+        script: with_heap(script, left),
     }
 }
 

@@ -1,9 +1,9 @@
 -- `script::back` meets its contract.
 -- Assumes nothing.
 use native.Mathlib.Omega.{arith}
-use borrow.Author.Needs.{needs}
 use lib.ListN.{length-take}
 use Rattle.script.proofs.Carrying.{back-done}
+use borrow.Author.Needs.{needs}
 use Rattle.script.proofs.back.Statement.{statement}
 use Rattle.script.proofs.back.Tie as tie
 
@@ -28,11 +28,11 @@ slice-aggregate-free-2 c = rw length-take (omega arith)
 free-requires : tie.Need-free-requires
 free-requires c κs = search needs
 
-enum-known-freed : tie.Need-enum-known-freed
-enum-known-freed c = search needs
+freed-answer-requires : tie.Need-freed-answer-requires
+freed-answer-requires c κs = search needs
 
-enum-known-freed-2 : tie.Need-enum-known-freed-2
-enum-known-freed-2 c = search needs
+with-heap-requires : tie.Need-with-heap-requires
+with-heap-requires c κs = search needs
 
 same-length : tie.Need-same-length
 same-length c = search needs
@@ -42,21 +42,9 @@ same-length-2 c = search needs
 
 returns : tie.Need-returns
 returns c =
-    let d = c .before .before .before .before .before .before .before .before .before in
-    let b = d .before .before .before in
-    back-done _ _ _ _ _ _ _ (b .before .words-in-use .ensures) (b .bytes-in-use .ensures) _ _ _ (d .free .ensures) _ (c .before .freed .given .1)
-
-same-length-3 : tie.Need-same-length-3
-same-length-3 c = search needs
-
-same-length-4 : tie.Need-same-length-4
-same-length-4 c = search needs
-
-returns-2 : tie.Need-returns-2
-returns-2 c =
-    let d = c .before .before .before .before .before .before .before .before .before in
-    let b = d .before .before .before in
-    back-done _ _ _ _ _ _ _ (b .before .words-in-use .ensures) (b .bytes-in-use .ensures) _ _ _ (d .free .ensures) _ (c .before .freed2 .given .1)
+    let d = c .before .before .before .before .before .before .before in
+    let k = d .before .before .before in
+    back-done _ _ _ _ _ _ _ (k .before .words-in-use .ensures) (k .bytes-in-use .ensures) _ _ _ (d .free .ensures) _ (c .before .freed-answer .ensures) (c .with-heap .ensures)
 
 pub back-spec : {M : Type 1} → statement M
 back-spec =
@@ -69,11 +57,8 @@ back-spec =
     slice-relend-prefix-free-2
     slice-aggregate-free-2
     free-requires
-    enum-known-freed
-    enum-known-freed-2
+    freed-answer-requires
+    with-heap-requires
     same-length
     same-length-2
-    returns
-    same-length-3
-    same-length-4
-    returns-2)
+    returns)

@@ -1,9 +1,9 @@
 -- `script::make` meets its contract.
 -- Assumes nothing.
 use native.Mathlib.Omega.{arith}
-use borrow.Author.Needs.{needs}
 use lib.ListN.{length-take}
 use Rattle.script.proofs.Carrying.{make-refused, make-done}
+use borrow.Author.Needs.{needs}
 use Rattle.script.proofs.make.Statement.{statement}
 use Rattle.script.proofs.make.Tie as tie
 
@@ -34,6 +34,9 @@ enum-known-made c = search needs
 enum-told : tie.Need-enum-told
 enum-told c = search needs
 
+with-heap-requires : tie.Need-with-heap-requires
+with-heap-requires c κs = search needs
+
 same-length : tie.Need-same-length
 same-length c = search needs
 
@@ -43,8 +46,8 @@ same-length-2 c = search needs
 returns : tie.Need-returns
 returns c =
     let d = c .before .before .before .before .before .before .before .before in
-    let b = d .before .before .before .before in
-    make-refused _ _ _ _ _ _ _ (b .before .arena-part .ensures .0) (b .table-part .ensures .0) _ _ _ (d .init .ensures) _ (c .before .made .given .1)
+    let k = d .before .before .before in
+    make-refused _ _ _ _ _ _ _ (k .before .arena-part .ensures .0) (k .table-part .ensures .0) _ _ _ (d .init .ensures) _ (c .before .made .given .1)
 
 same-length-3 : tie.Need-same-length-3
 same-length-3 c = search needs
@@ -54,9 +57,9 @@ same-length-4 c = search needs
 
 returns-2 : tie.Need-returns-2
 returns-2 c =
-    let d = c .before .before .before .before .before .before .before in
-    let b = d .before .before .before .before in
-    make-done _ _ _ _ _ _ _ (b .before .arena-part .ensures .0) (b .table-part .ensures .0) _ _ _ (d .init .ensures) (c .enum-told .given .1)
+    let d = c .before .before .before .before .before .before .before .before in
+    let k = d .before .before .before in
+    make-done _ _ _ _ _ _ _ (k .before .arena-part .ensures .0) (k .table-part .ensures .0) _ _ _ (d .init .ensures) (c .before .enum-told .given .1) _ (c .with-heap .ensures)
 
 pub make-spec : {M : Type 1} → statement M
 make-spec =
@@ -71,6 +74,7 @@ make-spec =
     init-requires
     enum-known-made
     enum-told
+    with-heap-requires
     same-length
     same-length-2
     returns

@@ -4,8 +4,8 @@ use mathlib.Core.Path.{refl, sym, ap, _∙_}
 use mathlib.Core.List.{[], _∷_}
 use native.Mathlib.Omega.{arith}
 use borrow.Author.Needs.{needs}
-use Rattle.script.specs.Text.{lineOf}
-use Rattle.script.specs.Commands.{okWord, noWord, answerLine}
+use Rattle.script.specs.Text.{ascii, lineOf}
+use Rattle.script.specs.Commands.{answerLine}
 use Rattle.script.proofs.Writing.{one-most, put-line}
 use Rattle.script.proofs.put_answer.Statement.{statement}
 use Rattle.script.proofs.put_answer.Tie as tie
@@ -20,7 +20,7 @@ cast-put-one : tie.Need-cast-put-one
 cast-put-one c = search needs
 
 put-one-requires : tie.Need-put-one-requires
-put-one-requires c κs = omega (arith, one-most okWord (c .before .before .before .answer .given .0 .0) (omega arith))
+put-one-requires c κs = omega (arith, one-most (ascii "ok") (c .before .before .before .answer .given .0 .0) (omega arith))
 
 enum-known-answer-2 : tie.Need-enum-known-answer-2
 enum-known-answer-2 c = search needs
@@ -35,7 +35,7 @@ cast-put-one-2 : tie.Need-cast-put-one-2
 cast-put-one-2 c = search needs
 
 put-one-requires-2 : tie.Need-put-one-requires-2
-put-one-requires-2 c κs = omega (arith, one-most noWord (c .number .result) (omega arith))
+put-one-requires-2 c κs = omega (arith, one-most (ascii "no") (c .number .result) (omega arith))
 
 enum-known-answer-3 : tie.Need-enum-known-answer-3
 enum-known-answer-3 c = search needs
@@ -50,7 +50,7 @@ cast-put-one-3 : tie.Need-cast-put-one-3
 cast-put-one-3 c = search needs
 
 put-one-requires-3 : tie.Need-put-one-requires-3
-put-one-requires-3 c κs = omega (arith, one-most noWord (c .init-number .result) (omega arith))
+put-one-requires-3 c κs = omega (arith, one-most (ascii "no") (c .init-number .result) (omega arith))
 
 enum-told : tie.Need-enum-told
 enum-told c = search needs
@@ -59,14 +59,14 @@ slice-aggregate-put-one-4 : tie.Need-slice-aggregate-put-one-4
 slice-aggregate-put-one-4 c = search needs
 
 put-one-requires-4 : tie.Need-put-one-requires-4
-put-one-requires-4 c κs = omega (arith, one-most noWord 14 (omega arith))
+put-one-requires-4 c κs = omega (arith, one-most (ascii "no") 14 (omega arith))
 
 same-length : tie.Need-same-length
 same-length c = search needs
 
 returns : tie.Need-returns
 returns c =
-    let d = c .before .before .before .before .before .before in put-line okWord (d .answer .given .0 .0) (ap answerLine (d .answer .given .1)) refl (omega arith) (c .before .before .put-one .ensures)
+    let d = c .before .before .before .before .before .before in put-line (ascii "ok") (d .answer .given .0 .0) (ap answerLine (d .answer .given .1)) refl (omega arith) (c .before .before .put-one .ensures)
 
 same-length-2 : tie.Need-same-length-2
 same-length-2 c = search needs
@@ -75,7 +75,7 @@ returns-2 : tie.Need-returns-2
 returns-2 c =
     let d = c .before .before .before .before .before .before .before in
     let n = c .before .before .before .number in
-    put-line noWord (n .result) (ap answerLine (d .answer2 .given .1) ∙ ap (λ k. lineOf noWord (k ∷ [])) (sym (n .ensures))) refl (omega arith) (c .before .before .put-one2 .ensures)
+    put-line (ascii "no") (n .result) (ap answerLine (d .answer2 .given .1) ∙ ap (λ k. lineOf (ascii "no") (k ∷ [])) (sym (n .ensures))) refl (omega arith) (c .before .before .put-one2 .ensures)
 
 same-length-3 : tie.Need-same-length-3
 same-length-3 c = search needs
@@ -84,14 +84,14 @@ returns-3 : tie.Need-returns-3
 returns-3 c =
     let d = c .before .before .before .before .before .before .before in
     let n = c .before .before .before .init-number in
-    put-line noWord (n .result) (ap answerLine (d .answer3 .given .1) ∙ ap (λ k. lineOf noWord (k ∷ [])) (sym (n .ensures))) refl (omega arith) (c .before .before .put-one3 .ensures)
+    put-line (ascii "no") (n .result) (ap answerLine (d .answer3 .given .1) ∙ ap (λ k. lineOf (ascii "no") (k ∷ [])) (sym (n .ensures))) refl (omega arith) (c .before .before .put-one3 .ensures)
 
 same-length-4 : tie.Need-same-length-4
 same-length-4 c = search needs
 
 returns-4 : tie.Need-returns-4
 returns-4 c =
-    put-line noWord 14 (ap answerLine (c .before .before .before .before .before .enum-told .given .1)) refl (omega arith) (c .before .before .put-one4 .ensures)
+    put-line (ascii "no") 14 (ap answerLine (c .before .before .before .before .before .enum-told .given .1)) refl (omega arith) (c .before .before .put-one4 .ensures)
 
 pub put-answer-spec : {M : Type 1} → statement M
 put-answer-spec =

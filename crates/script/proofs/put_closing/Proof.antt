@@ -5,8 +5,7 @@ use Prim.Native.Nat.{_*_, _≤_}
 use native.Mathlib.Omega.{arith}
 use lib.ListN.{length, take}
 use borrow.Author.Needs.{needs}
-use Rattle.script.specs.Text.{lineOf}
-use Rattle.script.specs.Commands.{sumWord}
+use Rattle.script.specs.Text.{ascii, lineOf}
 use Rattle.script.proofs.Lists.{length-lent}
 use Rattle.script.proofs.Writing.{four-most, closing-none, rows-lent, closing-rows}
 use Rattle.script.proofs.put_closing.Statement.{statement}
@@ -57,8 +56,8 @@ cast-put-four-4 : tie.Need-cast-put-four-4
 cast-put-four-4 c = search needs
 
 -- The line of the totals has at most 50 bytes.
-most : (c : tie.After-known-told) → let t = c .before .totals2 .given .0 in length (lineOf sumWord (t .0 ∷ t .1 .0 ∷ t .1 .1 .0 ∷ t .1 .1 .1 .0 ∷ [])) ≤ 50
-most c = four-most sumWord _ _ _ _ (omega arith) (omega arith) (omega arith) (omega arith)
+most : (c : tie.After-known-told) → let t = c .before .totals2 .given .0 in length (lineOf (ascii "sum") (t .0 ∷ t .1 .0 ∷ t .1 .1 .0 ∷ t .1 .1 .1 .0 ∷ [])) ≤ 50
+most c = four-most (ascii "sum") _ _ _ _ (omega arith) (omega arith) (omega arith) (omega arith)
 
 put-four-requires : tie.Need-put-four-requires
 put-four-requires c κs = let r = room (c .before .before .before .before .before .before .before .before .before) in omega (arith, most (c .before .before .before .before .before .before .before .before))

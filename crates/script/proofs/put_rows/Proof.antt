@@ -5,9 +5,9 @@ use Prim.Native.Nat.{_+_, _-_, _*_, _≤_}
 use native.Mathlib.Omega.{arith}
 use lib.ListN.{length}
 use Rattle.segments.specs.Rows.{segmentsIn}
-use Rattle.script.specs.Commands.{segWord}
 use Rattle.script.specs.Machine.{segLine, segLines}
 use Rattle.script.specs.Steps.{Put}
+use Rattle.script.specs.Text.{ascii}
 use Rattle.script.proofs.Writing.{put-none, four-most, put-row}
 use Rattle.script.proofs.put_rows.Statement.{statement}
 use Rattle.script.proofs.put_rows.Tie as tie
@@ -48,7 +48,7 @@ cast-put-four-4 c = omega arith
 
 -- The line of a row has at most 50 bytes.
 most : (c : tie.After-struct-known4 Inv-loop μ-loop) → length (segLine (c .before .before .before .before .before .before .row .result)) ≤ 50
-most c = four-most segWord _ _ _ _ (omega arith) (omega arith) (omega arith) (omega arith)
+most c = four-most (ascii "seg") _ _ _ _ (omega arith) (omega arith) (omega arith) (omega arith)
 
 put-four-requires : tie.Need-put-four-requires Inv-loop μ-loop
 put-four-requires c κs = omega (arith, most c)

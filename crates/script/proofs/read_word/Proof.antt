@@ -3,19 +3,18 @@
 use mathlib.Core.Path.{_≡_, sym, _∙_}
 use mathlib.Core.Bool.{false}
 use borrow.Author.Needs.{needs}
-use Rattle.script.specs.Text.{same}
-use Rattle.script.specs.Commands.{limitWord, makeWord, askWord}
+use Rattle.script.specs.Text.{ascii, same}
 use Rattle.script.proofs.read_word.Statement.{statement}
 use Rattle.script.proofs.read_word.Tie as tie
 
 -- The word is not limit after the first test, nor make after the second, nor ask after the third.
-not-limit : (c : tie.Else1) → same (c .before .before .before .before .args .field .now) limitWord ≡ false
+not-limit : (c : tie.Else1) → same (c .before .before .before .before .args .field .now) (ascii "limit") ≡ false
 not-limit c = sym (c .before .is-same .ensures) ∙ c .if1 .left
 
-not-make : (c : tie.Else2) → same (c .before .before .before .before .before .before .before .args .field .now) makeWord ≡ false
+not-make : (c : tie.Else2) → same (c .before .before .before .before .before .before .before .args .field .now) (ascii "make") ≡ false
 not-make c = sym (c .before .is-same2 .ensures) ∙ c .if2 .left
 
-not-ask : (c : tie.Else3) → same (c .before .before .before .before .before .before .before .before .before .before .args .field .now) askWord ≡ false
+not-ask : (c : tie.Else3) → same (c .before .before .before .before .before .before .before .before .before .before .args .field .now) (ascii "ask") ≡ false
 not-ask c = sym (c .before .is-same3 .ensures) ∙ c .if3 .left
 
 slice-aggregate-is-same : tie.Need-slice-aggregate-is-same
