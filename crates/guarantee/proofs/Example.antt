@@ -1,21 +1,18 @@
--- Document 01's script example to its end: the rows and the sums that it prints, and two enquiries of the same heap.
+-- Two enquiries of the heap that document 01's script example leaves. (What the example prints is `example` of the crate `script`.)
 -- Assumes nothing.
 use mathlib.Core.Path.{_≡_, refl, ap, _∙_}
 use mathlib.Core.List.{List, [], _∷_}
-use Prim.Native.Nat.{ℕ, _*_}
 use lib.ListN.{replicate}
 use Rattle.model.specs.Allocation.{State}
-use Rattle.model.specs.Orders.{allocOrder, freeOrder, initOrder, blockSizeOrder, totalsOrder, holdingOrder}
+use Rattle.model.specs.Orders.{allocOrder, freeOrder, initOrder, blockSizeOrder, holdingOrder}
 use Rattle.model.specs.Rules.{initConfig}
 use Rattle.model.specs.Numbers.{Numbered}
-use Rattle.segments.specs.Rows.{segmentsIn}
 use Rattle.heap.specs.Stored.{Stored, store}
 use Rattle.heap.specs.Valid.{valid}
-use Rattle.guarantee.specs.Lists.{Call, block-size, totals, holding, execute, numbered}
+use Rattle.guarantee.specs.Lists.{Call, block-size, holding, execute, numbered}
 use Rattle.guarantee.specs.Guarantee.{stateAfter, storedAfter}
 use Rattle.guarantee.specs.Cases.{Case, P, size, call, condition, arena, plan, small, cases}
 use Rattle.guarantee.proofs.Guarantee.{guarantee}
-use Rattle.model.specs.declared.Segment.{Segment}
 
 -- The calls among the cases: P5 to P13.
 abbrev callsOf : List Case → List Call
@@ -23,11 +20,6 @@ callsOf [] = []
 callsOf (P i (size n) e ∷ ps) = callsOf ps
 callsOf (P i (call k) e ∷ ps) = k ∷ callsOf ps
 callsOf (P i (condition c g m) e ∷ ps) = callsOf ps
-
--- A row as the script prints it: start, length, owner, bytes asked, in bytes.
-abbrev printed : List Segment → List (List ℕ)
-printed [] = []
-printed (x ∷ xs) = (16 * x .start ∷ 16 * x .length ∷ x .owner ∷ x .requested ∷ []) ∷ printed xs
 
 -- The state that the calls leave.
 abbrev end : State
@@ -44,16 +36,6 @@ stored-end = guarantee arena (replicate 32 0) plan refl (callsOf cases) .stored 
 -- The number and values of a call after them.
 abbrev answer : Stored → Call → Numbered
 answer s k = numbered k (execute s k .0)
-
--- The rows in use, from `seg 0 32 2 32` on.
-pub rows-printed : (let s : Stored = storedAfter small (callsOf cases) in printed (segmentsIn (s .heap .rows) (s .words)))
-    ≡ (0 ∷ 32 ∷ 2 ∷ 32 ∷ []) ∷ (32 ∷ 32 ∷ 0 ∷ 0 ∷ []) ∷ (64 ∷ 16 ∷ 2 ∷ 16 ∷ []) ∷ (80 ∷ 32 ∷ 1 ∷ 17 ∷ []) ∷ (112 ∷ 16 ∷ 0 ∷ 0 ∷ []) ∷ []
-rows-printed = rw stored-end
-
--- `sum 80 48 96 32`.
-pub sums-printed : answer (storedAfter small (callsOf cases)) totals ≡ (0, 80 ∷ 48 ∷ 96 ∷ 32 ∷ [])
-unfolding valid totalsOrder
-sums-printed = rw stored-end
 
 -- The block of 17 bytes at 80 holds 32.
 pub size-answered : answer (storedAfter small (callsOf cases)) (block-size 1 80) ≡ (0, 17 ∷ 32 ∷ [])
