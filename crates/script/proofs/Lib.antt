@@ -9,4 +9,5 @@ pub mod Holding
 pub mod Feeding
 pub mod Finishing
 pub mod Laws
+pub mod Performed
 pub mod Example

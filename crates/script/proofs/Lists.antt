@@ -7,7 +7,7 @@ use native.Mathlib.Omega.{arith}
 use native.Mathlib.Numerals.{add-one}
 use lib.Dec.{leb}
 use lib.ListN.{length, getD, set, take, drop, length-append, length-drop, drop-of-length-le}
-use lib.Seq.{sets, sets-eq, take-all, take-length, take-suc, take-add, take-take, drop-length, drop-at, length-take-le}
+use lib.Seq.{sets, sets-eq, take-all, take-length, take-suc, take-add, take-take, take-append-seam, drop-length, drop-at, length-take-le}
 use Rattle.model.proofs.Choosing.{split, tests}
 use Rattle.script.specs.Text.{atFront}
 
@@ -58,7 +58,11 @@ sets-more l text from i h =
 pub sets-front : (text l : List ℕ) → length text ≤ length l → sets l 0 text ≡ atFront text l
 sets-front text l h = let z : 0 + length text ≡ length text = omega arith in sets-eq text l 0 (omega arith) ∙ rw z
 
--- A text at the front of a buffer is its first bytes, and there are so many.
+-- A text at the front of a buffer is read back from there.
+pub front-text : (text l after : List ℕ) (n : ℕ) → n ≡ length text → after ≡ atFront text l → take n after ≡ text
+front-text text l after n e f = rw (e, f) (take-append-seam text _)
+
+-- It is the buffer's first bytes, and there are so many.
 pub front-counts : (text l after : List ℕ) (n : ℕ) → n ≡ length text → after ≡ atFront text l → (n ≤ length after) × (n ≡ length (take n after))
 front-counts text l after n e f =
     let h : n ≤ length after = omega (arith, ap length f, length-append text (drop (length text) l)) in

@@ -5,4 +5,5 @@ pub mod Commands
 pub mod Machine
 pub mod Session
 pub mod Promises
+pub mod Performed
 pub mod Steps
