@@ -13,6 +13,7 @@ ghost use Rattle.script.specs.Promises.{CommandDone, FeedDone, FinishDon
 ghost use Rattle.script.specs.Steps.{before, following, numberRead, withNumber, numbersRead, wordRead, commandFor, partOf, Put, heldWith, AnswerDone};
 use heap::Heap;
 use heap::is_owner;
+use heap::zero_heap;
 use model::Freed;
 use model::InitRefusal;
 use model::Made;
@@ -635,15 +636,7 @@ pub fn start() -> Session
                 granule_quotas: [0; 8],
                 block_quotas: [0; 8],
             },
-            heap: Heap {
-                capacity: 0,
-                rows: 0,
-                granules: 0,
-                used: 0,
-                peak: 0,
-                granule_quotas: [0; 8],
-                block_quotas: [0; 8],
-            },
+            heap: zero_heap(),
         },
         line: [0; 81],
         held: 0,
