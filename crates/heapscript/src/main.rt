@@ -1,49 +1,87 @@
 // Runs a script of requests: reads standard input to its end, and writes the answer to each line, and the heap at the end, to standard output.
+ghost use mathlib.Core.Path.{_≡_};
+ghost use Prim.Native.Nat.{_*_, _≤_};
+ghost use lib.ListN.{length};
+ghost use Rattle.script.specs.Promises.{FeedDone};
+use script::Fed;
 use script::Session;
+use script::Written;
 
-// The session after a part of the input, and whether more may come.
+// The session after a part of the input, whether it was read and its answers written, and whether it was the end.
 struct Turn {
     session: Session,
-    more: bool,
+    ok: bool,
+    end: bool,
 }
 
-// Reads a part of the input, and writes the answers to the lines that end in it. A part of 4,096 bytes is always taken whole: 65,536 bytes have room for
-// all of its answers (`script`'s law `all-taken`).
+// Answers the lines that end in a part of the input, all of which is taken.
+fn answer_whole(
+    session: Session,
+    table: &mut [u32],
+    arena: &mut [u8],
+    input: &[u8],
+    out: &mut [u8],
+) -> Fed
+    requires { ⌜ 14 * length (now input) ≤ length (now out) ⌝ }
+    ensures { λ r. ⌜ (r .taken ≡ length (now (input .entry))) × FeedDone session (now (table .entry)) (now (arena .entry)) (now (input .entry)) (now (out .entry)) r (now (table .exit)) (now (arena .exit)) (now (out .exit)) ⌝ }
+{
+    script::feed(session, table, arena, input, out)
+}
+
+// Reads a part of the input, 4,096 bytes at most, and writes its answers.
 fn answer_part(session: Session, table: &mut [u32], arena: &mut [u8]) -> Turn {
     let mut input = io::buffer();
     let got = libc::read(0, &mut input);
     let n = io::count(got, &input);
     let mut out = io::large_buffer();
-    let fed = script::feed(session, table, arena, &input[..n], &mut out);
+    let fed = answer_whole(session, table, arena, &input[..n], &mut out);
     let written = fed.written;
     let ok = io::write_all(1, &out[..written]);
     let after = fed.session;
     Turn {
         session: after,
-        more: ok && 0 < n,
+        ok: ok && 0 <= got,
+        end: n == 0,
     }
 }
 
-// Answers the whole input, part by part. Nothing says that an input ends, so the parts are counted: there is none that has as many.
-fn answer_input(session: Session, table: &mut [u32], arena: &mut [u8]) -> Session {
-    let mut s = session;
+// Answers the whole input, part by part, up to its end or the first failure. A loop needs a count that falls: no input has so many parts.
+fn answer_input(session: Session, table: &mut [u32], arena: &mut [u8]) -> Turn {
+    let mut turn = Turn {
+        session: session,
+        ok: true,
+        end: false,
+    };
     let mut parts: u64 = 18446744073709551615;
     while 0 < parts {
-        let turn = answer_part(s, table, arena);
-        s = turn.session;
-        if !turn.more {
-            return s;
+        let s = turn.session;
+        turn = answer_part(s, table, arena);
+        if turn.end || !turn.ok {
+            return turn;
         }
         parts -= 1;
     }
-    s
+    turn
 }
 
+// Writes what comes at the end.
+fn write_end(session: Session, table: &mut [u32], arena: &mut [u8]) -> bool {
+    let mut out = io::large_buffer();
+    let written = script::finish(session, table, arena, &mut out);
+    match written {
+        Written::Bytes(n) => io::write_all(1, &out[..n]),
+        Written::NoRoom => false,
+    }
+}
+
+// After a failure the rest of the output would be no answer to the input, so nothing more is written but a word to standard error.
 fn main() {
     let mut table = [0u32; 2048];
     let mut arena = [0u8; 65536];
-    let session = answer_input(script::start(), &mut table, &mut arena);
-    let mut out = io::large_buffer();
-    let written = script::finish(session, &mut table, &mut arena, &mut out);
-    io::write_all(1, &out[..written]);
+    let turn = answer_input(script::start(), &mut table, &mut arena);
+    let session = turn.session;
+    if turn.ok && write_end(session, &mut table, &mut arena) {
+        return;
+    }
+    io::write_all(2, b"heapscript: reading or writing failed\n");
 }

@@ -11,9 +11,11 @@ use lib.ListN.{length, take, drop, take-append-drop}
 use lib.Seq.{length-take-le}
 use Rattle.model.specs.Choose.{either, given}
 use Rattle.model.specs.Quantities.{isArena, isTable, isOwner}
-use Rattle.model.specs.Orders.{firstReason, initOrder}
-use Rattle.model.proofs.Choosing.{split, tests, clash}
+use Rattle.model.specs.Orders.{firstReason, initOrder, allocOrder, freeOrder}
+use borrow.Author.Tests.{lt-ltb, le-ltb}
+use Rattle.model.proofs.Choosing.{split, splitOption, tests, clash}
 use Rattle.model.proofs.Refusing.{no-reason}
+use Rattle.heap.specs.Calls.{isValid, config, state}
 use Rattle.heap.specs.Promises.{InitDone, AllocDone, FreeDone}
 use Rattle.heap.specs.declared.Initialized.{Initialized}
 use Rattle.heap.specs.declared.Allocated.{Allocated}
@@ -22,20 +24,39 @@ use Rattle.heap.proofs.Making.{none-applies}
 use Rattle.model.specs.declared.Refusal.the-variants as refusal
 use Rattle.model.specs.declared.InitRefusal.{InitRefusal}
 use Rattle.model.specs.declared.Made.the-variants as made
-use Rattle.script.specs.Machine.{machine, withHeap, mostBytes, placedAnswer, freedAnswer, makeOrder}
+use Rattle.script.specs.Commands.{answerNumbered}
+use Rattle.script.specs.Machine.{Machine, machine, withHeap, mostBytes, placedAnswer, freedAnswer, limitOrder, makeOrder, bytes, stored, answerTo, numberedTo, after}
 use Rattle.script.specs.Promises.{CommandDone}
 use Rattle.script.specs.Steps.{partOf}
 use Rattle.script.proofs.Lists.{at-most}
 use Rattle.script.specs.declared.Script.{Script}
 use Rattle.script.specs.declared.Carried.{Carried}
+use Rattle.script.specs.declared.Command.{Command}
 use Rattle.script.specs.declared.Command.the-variants as command
 use Rattle.script.specs.declared.Answer.the-variants as answer
+
+-- The number and the value of a command's answer are those that its order gives.
+answer-numbered : (m : Machine) (k : Command) → answerNumbered (answerTo m k) ≡ numberedTo m k
+answer-numbered m (command.Limit o g b) = splitOption (firstReason (limitOrder o)) (λ q. rw q) (λ r q. rw q)
+answer-numbered m (command.Make b r) = splitOption (firstReason (makeOrder m b r)) (λ q. rw q) (λ t q. rw q)
+answer-numbered m (command.Ask o n a) =
+    splitOption (firstReason (allocOrder (isValid (stored m)) (config (stored m)) (state (stored m)) o n a)) (λ q. rw q) (λ r q. rw q)
+answer-numbered m (command.Back o x) =
+    splitOption (firstReason (freeOrder (isValid (stored m)) (config (stored m)) (state (stored m)) (bytes m) o x)) (λ q. rw q) (λ r q. rw q)
+answer-numbered m command.Unreadable = refl
+
+-- So a promise is kept if the answer and what is left are right.
+pub command-done : {s : Script} {ws bs : List ℕ} {k : Command} {r : Carried} {wordsAfter bytesAfter : List ℕ}
+    → r .answer ≡ answerTo (machine s ws bs) k → machine (r .script) wordsAfter bytesAfter ≡ after (machine s ws bs) k
+    → CommandDone s ws bs k r wordsAfter bytesAfter
+command-done {s} {ws} {bs} {k} e l =
+    record { answer = e; numbered = ap answerNumbered e ∙ answer-numbered (machine s ws bs) k; leaves = l }
 
 module _ (s : Script) (ws bs : List ℕ) where
   -- The quotas of what is no owner stay.
   pub limit-refused : (o g b : ℕ) → isOwner o ≡ false
       → CommandDone s ws bs (command.Limit o g b) (record { answer = answer.Refused refusal.BadOwner; script = s }) ws bs
-  limit-refused o g b e = record { answer = rw e; leaves = rw e }
+  limit-refused o g b e = command-done (rw e) (rw e)
 
   -- The words that an allocation is lent are the heap's table, and the others stay.
   pub ask-done : (o n a k : ℕ) → k ≡ min (4 * s .heap .capacity) (length ws) → (out : Allocated) (left : List ℕ) → AllocDone (s .heap) (take k ws) o n a out left
@@ -44,10 +65,7 @@ module _ (s : Script) (ws bs : List ℕ) where
   ask-done o n a k e out left d r is then =
       let t = at-most (4 * s .heap .capacity) k ws e in
       let w : AllocDone (s .heap) (take (4 * s .heap .capacity) ws) o n a out left = subst (λ (l : List ℕ). AllocDone (s .heap) l o n a out left) (t .0) d in
-      record {
-        answer = is ∙ ap placedAnswer (w .answer);
-        leaves = rw then (λ i. machine (withHeap s (w .heap i)) (w .table i ++ t .1 i) bs);
-      }
+      command-done (is ∙ ap placedAnswer (w .answer)) (rw then (λ i. machine (withHeap s (w .heap i)) (w .table i ++ t .1 i) bs))
 
   -- The words and bytes that a free is lent are the heap's, and the others stay.
   pub back-done : (o x k n : ℕ) → k ≡ min (4 * s .heap .capacity) (length ws) → n ≡ min (16 * s .heap .granules) (length bs)
@@ -59,10 +77,7 @@ module _ (s : Script) (ws bs : List ℕ) where
       let u = at-most (16 * s .heap .granules) n bs f in
       let w : FreeDone (s .heap) (take (4 * s .heap .capacity) ws) (take (16 * s .heap .granules) bs) o x out words bytes =
       subst (λ (l : List ℕ × List ℕ). FreeDone (s .heap) (l .0) (l .1) o x out words bytes) (λ i. (t .0 i, u .0 i)) d in
-      record {
-        answer = is ∙ ap freedAnswer (w .answer);
-        leaves = rw then (λ i. machine (withHeap s (w .heap i)) (w .table i ++ t .1 i) (w .arena i ++ u .1 i));
-      }
+      command-done (is ∙ ap freedAnswer (w .answer)) (rw then (λ i. machine (withHeap s (w .heap i)) (w .table i ++ t .1 i) (w .arena i ++ u .1 i)))
 
 -- One of two tests holds if the second does.
 pub either-true : (t u : Bool) → u ≡ true → either t u ≡ true
@@ -73,6 +88,13 @@ either-true false u e = e
 pub either-false : (t u : Bool) → u ≡ false → either t u ≡ t
 either-false true u e = refl
 either-false false u e = e
+
+-- More than the one or than the other is more than the smaller.
+over-smaller : (a b x : ℕ) → either (ltb a x) (ltb b x) ≡ ltb (min a b) x
+over-smaller a b x =
+    split (ltb a x)
+    (λ q. rw (q, lt-ltb (min a b) x (omega tests)))
+    (λ q. split (ltb b x) (λ p. rw (q, p, lt-ltb (min a b) x (omega tests))) (λ p. rw (q, p, le-ltb (min a b) x (omega tests))))
 
 -- A test that does not hold of 0 holds of the length of a part exactly if it holds of the number asked for, and there are so many.
 part-test : (p : ℕ → Bool) → p 0 ≡ false → (b m : ℕ) (l : List ℕ) → m ≤ length l → either (not (p b)) (ltb m b) ≡ not (p (length (take (partOf b m) l)))
@@ -96,14 +118,14 @@ module _ (s : Script) (ws bs : List ℕ) (b r n k : ℕ) (bytes-part : n ≡ par
   pub same-reason : firstReason (makeOrder (machine s ws bs) b r) ≡ firstReason (initOrder (take n bs) (take k ws) (s .plan))
   unfolding makeOrder initOrder
   same-reason =
-      rw (bytes-part, words-part, part-test isArena refl b (min mostBytes (length bs)) bs (omega arith), part-test isTable refl (4 * r) (length ws) ws (omega arith))
+      rw (over-smaller mostBytes (length bs) b, bytes-part, words-part, part-test isArena refl b (min mostBytes (length bs)) bs (omega arith), part-test isTable refl (4 * r) (length ws) ws (omega arith))
 
   -- If it finds none, the parts have so many bytes and so many rows.
   pub parts-whole : firstReason (makeOrder (machine s ws bs) b r) ≡ none → (n ≡ b) × (k ≡ 4 * r)
   unfolding makeOrder
   parts-whole q =
       let free = no-reason (makeOrder (machine s ws bs) b r) q in
-      (bytes-part ∙ part-whole (not (isArena b)) b (min mostBytes (length bs)) (free .0), words-part ∙ part-whole (not (isTable (4 * r))) (4 * r) (length ws) (free .1 .0))
+      (bytes-part ∙ part-whole (not (isArena b)) b (min mostBytes (length bs)) (rw (over-smaller mostBytes (length bs) b) at (free .0)), words-part ∙ part-whole (not (isTable (4 * r))) (4 * r) (length ws) (free .1 .0))
 
   module _ (out : Initialized) (bytes words : List ℕ) (d : InitDone (take n bs) (take k ws) (s .plan) out bytes words) where
     -- Refused, the parts come back as they were.
@@ -113,10 +135,7 @@ module _ (s : Script) (ws bs : List ℕ) (b r n k : ℕ) (bytes-part : n ≡ par
         let q : firstReason (initOrder (take n bs) (take k ws) (s .plan)) ≡ some why = reason-is _ why (sym (d .answer) ∙ e) in
         let table : words ≡ take k ws = rw q at (d .table) in
         let arena : bytes ≡ take n bs = rw q at (d .arena) in
-        record {
-          answer = rw (same-reason, q);
-          leaves = rw (same-reason, q, table, arena, take-append-drop k ws, take-append-drop n bs);
-        }
+        command-done (rw (same-reason, q)) (rw (same-reason, q, table, arena, take-append-drop k ws, take-append-drop n bs))
 
     -- Done, the parts are the first b bytes and the first r rows.
     pub make-done : out .made ≡ made.Done
@@ -127,8 +146,4 @@ module _ (s : Script) (ws bs : List ℕ) (b r n k : ℕ) (bytes-part : n ≡ par
         let whole : (n ≡ b) × (k ≡ 4 * r) = parts-whole q in
         let w : InitDone (take b bs) (take (4 * r) ws) (s .plan) out bytes words =
         subst (λ (l : ℕ × ℕ). InitDone (take (l .0) bs) (take (l .1) ws) (s .plan) out bytes words) (λ i. (whole .0 i, whole .1 i)) d in
-        record {
-          answer = rw q;
-          leaves =
-              rw (q, h) (λ i. machine (withHeap s (w .heap i)) (w .table i ++ drop (whole .1 i) ws) (w .arena i ++ drop (whole .0 i) bs));
-        }
+        command-done (rw q) (rw (q, h) (λ i. machine (withHeap s (w .heap i)) (w .table i ++ drop (whole .1 i) ws) (w .arena i ++ drop (whole .0 i) bs)))

@@ -152,7 +152,7 @@ module _ (s : Session) (words bytes input room : List ℕ) (script : Script) (wo
       ∙ ap (λ (x : List ℕ). take h (s .line) ++ x) (drop-take input at taken (omega (arith, f .inside, whole)) (omega (arith, t)))
 
   pub fed-done : (w : Held) → w ≡ heldWith (s .line) h (take (taken - at) (drop at input))
-      → FeedDone s words bytes input room (record { session = record { script = script; line = w .line; held = w .count }; taken = taken; written = end }) wordsAfter bytesAfter buffer
+      → FeedDone s words bytes input room (record { session = record { script = script; line = w .line; count = w .count }; taken = taken; written = end }) wordsAfter bytesAfter buffer
   fed-done w e =
       record {
         taken = t;

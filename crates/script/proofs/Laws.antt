@@ -2,14 +2,14 @@
 -- Assumes nothing.
 use mathlib.Core.Path.{_≡_, refl, sym, ap, _∙_, subst}
 use mathlib.Core.Bool.{Bool, true, false, not}
-use mathlib.Core.List.{List, [], _∷_, _++_, append-assoc}
+use mathlib.Core.List.{List, [], _∷_, _++_, append-assoc, append-nil}
 use mathlib.Core.Option.{none, some}
 use Prim.Native.Nat.{ℕ, zero, suc, _+_, _-_, _*_, _/_, _%_, _≤_, _<_, min}
 use native.Mathlib.Omega.{arith}
 use lib.Dec.{ltb, eqb}
 use lib.ListN.{length, take, drop, length-append, take-append-drop}
 use lib.Seq.{take-at}
-use borrow.Author.Tests.{not-true, le-leb, ne-eqb}
+use borrow.Author.Tests.{eqb-true, not-true, le-leb, ne-eqb}
 use Rattle.model.specs.Numbers.{numberOf, initNumberOf}
 use Rattle.model.specs.Choose.{both, either, every}
 use Rattle.model.specs.Quantities.{Config, inRange}
@@ -28,13 +28,13 @@ use Rattle.heap.proofs.StoredValid.{stored-valid}
 use Rattle.heap.proofs.ValidStored.{valid-kept, valid-range}
 use Rattle.heap.proofs.Making.{init-leaves, init-range, fresh-kept, zero-invalid}
 use Rattle.heap.proofs.Laws.{alloc-invalid, free-invalid}
-use Rattle.script.specs.Text.{ascii, pieces, ended, unended, isDigit, valueFrom, valueOf, numberIn, digitsWithin, decimal, spaced, lineOf}
+use Rattle.script.specs.Text.{ascii, prefixed, pieces, ended, unended, isDigit, valueFrom, valueOf, numberIn, digitsWithin, decimal, spaced, lineOf}
 use Rattle.script.specs.Commands.{readLine, answerLine}
 use Rattle.script.specs.Machine.{Machine, machine, started, mostBytes, segLines, plan, heap, words, bytes, stored, leaving, limitOrder, makeOrder, made, answerTo, after, closing}
 use Rattle.script.specs.Session.{answersTo, afterLines, takenOf}
 use Rattle.script.specs.Steps.{partOf}
 use Rattle.script.proofs.Carrying.{either-true, either-false, same-reason, parts-whole}
-use Rattle.script.proofs.Writing.{length-decimal}
+use Rattle.script.proofs.Writing.{length-decimal, refused-line, not-made-line}
 use Rattle.script.proofs.Parts.{prefixed-none, ended-more, unended-more}
 use Rattle.model.specs.declared.Plan.{Plan}
 use Rattle.model.specs.declared.Refusal.{Refusal}
@@ -43,6 +43,50 @@ use Rattle.script.specs.declared.Command.{Command}
 use Rattle.script.specs.declared.Command.the-variants as command
 use Rattle.script.specs.declared.Answer.{Answer}
 use Rattle.script.specs.declared.Answer.the-variants as answer
+
+-- Pieces with the separator between them.
+abbrev pub joinedBy : ℕ → List (List ℕ) → List ℕ
+joinedBy s [] = []
+joinedBy s (f ∷ []) = f
+joinedBy s (f ∷ g ∷ fs) = f ++ (s ∷ joinedBy s (g ∷ fs))
+
+-- Bytes before the first piece stand before them all.
+joined-prefixed : (s : ℕ) (p : List ℕ) (fs : List (List ℕ)) → joinedBy s (prefixed p fs) ≡ p ++ joinedBy s fs
+joined-prefixed s p [] = sym (append-nil p)
+joined-prefixed s p (f ∷ []) = refl
+joined-prefixed s p (f ∷ g ∷ fs) = append-assoc p f (s ∷ joinedBy s (g ∷ fs))
+
+-- A piece before others is followed by a separator.
+joined-more : (s : ℕ) (f p : List ℕ) (fs : List (List ℕ)) → joinedBy s (f ∷ prefixed p fs) ≡ f ++ (s ∷ joinedBy s (prefixed p fs))
+joined-more s f p [] = refl
+joined-more s f p (g ∷ fs) = refl
+
+-- The pieces with the separator between them are the bytes: none is lost.
+pub pieces-joined : (s : ℕ) (bs : List ℕ) → joinedBy s (pieces s bs) ≡ bs
+pieces-joined s [] = refl
+pieces-joined s (b ∷ bs) =
+    split (eqb b s)
+    (λ q.
+    let e : b ≡ s = eqb-true b s q in
+    let more : joinedBy s ([] ∷ pieces s bs) ≡ s ∷ joinedBy s (pieces s bs) = rw prefixed-none at (joined-more s [] [] (pieces s bs)) in
+    rw q (more ∙ rw (pieces-joined s bs, e)))
+    (λ q. rw q (joined-prefixed s (b ∷ []) (pieces s bs) ∙ rw (pieces-joined s bs)))
+
+-- A byte is not the separator.
+abbrev pub isOther : ℕ → ℕ → Bool
+isOther s b = not (eqb b s)
+
+-- No piece holds a separator: each is as long as can be.
+pub pieces-apart : (s : ℕ) (bs : List ℕ) → every (every (isOther s)) (pieces s bs) ≡ true
+pieces-apart s [] = refl
+pieces-apart s (b ∷ bs) =
+    split (eqb b s)
+    (λ q. rw (q, pieces-apart s bs))
+    (λ q. rw q (prefixed-apart (pieces s bs) (rw q) (pieces-apart s bs)))
+  where
+    prefixed-apart : (fs : List (List ℕ)) → isOther s b ≡ true → every (every (isOther s)) fs ≡ true → every (every (isOther s)) (prefixed (b ∷ []) fs) ≡ true
+    prefixed-apart [] h e = rw h
+    prefixed-apart (f ∷ fs) h e = rw (h, e)
 
 -- One more digit.
 value-more : (v : ℕ) (ds : List ℕ) (d : ℕ) → valueFrom v (ds ++ (d ∷ [])) ≡ 10 * valueFrom v ds + (d - 48)
@@ -89,7 +133,7 @@ number-decimal n h =
 
 -- A byte is no newline.
 abbrev plain : ℕ → Bool
-plain b = not (eqb b 10)
+plain b = isOther 10 b
 
 -- A digit is no newline.
 digit-plain : (d : ℕ) → isDigit d ≡ true → plain d ≡ true
@@ -116,8 +160,10 @@ line-piece word ns rest h =
 -- An answer's line is a piece.
 answer-piece : (a : Answer) (rest : List ℕ) → (text : List ℕ) × (pieces 10 (answerLine a ++ rest) ≡ text ∷ pieces 10 rest)
 answer-piece (answer.Ok v) rest = (_, line-piece (ascii "ok") (v ∷ []) rest refl)
-answer-piece (answer.Refused r) rest = (_, line-piece (ascii "no") (numberOf r ∷ []) rest refl)
-answer-piece (answer.NotMade r) rest = (_, line-piece (ascii "no") (initNumberOf r ∷ []) rest refl)
+answer-piece (answer.Refused r) rest =
+    (ascii "no" ++ spaced (numberOf r ∷ []), rw (refused-line r) (line-piece (ascii "no") (numberOf r ∷ []) rest refl))
+answer-piece (answer.NotMade r) rest =
+    (ascii "no" ++ spaced (initNumberOf r ∷ []), rw (not-made-line r) (line-piece (ascii "no") (initNumberOf r ∷ []) rest refl))
 answer-piece answer.Unreadable rest = (_, line-piece (ascii "no") (14 ∷ []) rest refl)
 
 -- The answers are as many lines as there were, and then nothing.
@@ -293,6 +339,6 @@ closing-made table arena ls = (
   λ e. closing-some (afterLines (machine started table arena) ls) (heap-made table arena ls ∙ e),
 )
 
--- With 14 bytes of room for each byte of an input, all of it is taken: no line is shorter than its newline.
+-- With 14 bytes of room for each byte of an input, all of it is taken.
 pub all-taken : (input room : List ℕ) → 14 * length input ≤ length room → takenOf input room ≡ length input
 all-taken input room h = omega arith

@@ -12,7 +12,7 @@ use Rattle.model.proofs.Choosing.{split, tests}
 use Rattle.script.specs.Text.{prefixed, pieces, ended, unended, unlessEmpty}
 use Rattle.script.specs.Commands.{readLine}
 use Rattle.script.specs.Machine.{Machine, machine, started, after}
-use Rattle.script.specs.Session.{answersTo, afterLines, answersAndClosing, transcript, mostHeld, piecesWith, inParts, joined}
+use Rattle.script.specs.Session.{answersTo, afterLines, answersAndClosing, output, mostHeld, piecesWith, inParts, joined}
 use Rattle.script.proofs.Reading.{long-line}
 
 -- Bytes before bytes before the first piece stand before it together.
@@ -149,7 +149,7 @@ parts-written m p (part ∷ parts) =
     (parts-written (afterLines m (ended (piecesWith p part))) (unended (piecesWith p part)) parts))
 
 -- What is written for an input that comes in parts, whatever they are, is what is written for the whole.
-pub in-parts : (table arena : List ℕ) (parts : List (List ℕ)) → inParts (machine started table arena) [] parts ≡ transcript table arena (joined parts)
+pub in-parts : (table arena : List ℕ) (parts : List (List ℕ)) → inParts (machine started table arena) [] parts ≡ output table arena (joined parts)
 in-parts table arena parts =
     parts-written (machine started table arena) [] parts
     ∙ ap (λ fs. answersAndClosing (machine started table arena) (linesIn fs)) (prefixed-none 10 (joined parts))

@@ -12,6 +12,7 @@ use lib.ListN.{length, take, drop, set, length-append}
 use borrow.Author.Tests.{lt-ltb, le-ltb}
 use Rattle.model.specs.Choose.{choose, total}
 use Rattle.model.specs.Orders.{totalsOrder}
+use Rattle.model.specs.Numbers.{numberOf, initNumberOf}
 use Rattle.model.proofs.Choosing.{split, tests}
 use Rattle.script.specs.Text.{ascii, digitsWithin, decimal, spaced, lineOf}
 use Rattle.script.specs.Machine.{machine, segLine, segLines, closing, closingWith}
@@ -26,6 +27,10 @@ use Rattle.heap.proofs.Changing.{Bounds, bounds}
 use Rattle.model.specs.declared.Segment.{Segment}
 use Rattle.model.specs.declared.Refusal.{Refusal}
 use Rattle.model.specs.declared.Refusal.the-variants as refusal
+use Rattle.model.specs.declared.InitRefusal.{InitRefusal}
+use Rattle.model.specs.declared.InitRefusal.the-variants as initRefusal
+use Rattle.script.specs.Commands.{answerLine}
+use Rattle.script.specs.declared.Answer.the-variants as answer
 use Rattle.model.specs.declared.Totals.{Totals}
 use Rattle.model.specs.declared.Totals.the-variants as totals
 use Rattle.heap.specs.declared.Heap.{Heap}
@@ -101,6 +106,26 @@ put-spaced n ns f g = let z : (decimal n ++ []) ++ spaced ns ≡ decimal n ++ sp
 -- A line with one number that fits 32 bits has at most 12 bytes after its word.
 pub one-most : (word : List ℕ) (n : ℕ) → n < 2 ^ 32 → length (lineOf word (n ∷ [])) ≤ length word + 12
 one-most word n h = omega (arith, length-line word (n ∷ []), length-decimal 9 n (omega arith))
+
+-- Each refusal has a number, so that it is written `no N`.
+pub refused-line : (r : Refusal) → answerLine (answer.Refused r) ≡ lineOf (ascii "no") (numberOf r ∷ [])
+refused-line refusal.InvalidHeap = refl
+refused-line refusal.BadOwner = refl
+refused-line refusal.ZeroSize = refl
+refused-line refusal.BadAlignment = refl
+refused-line refusal.BlockQuota = refl
+refused-line refusal.GranuleQuota = refl
+refused-line refusal.NoPlace = refl
+refused-line refusal.TableFull = refl
+refused-line refusal.NotABlock = refl
+refused-line refusal.OtherOwner = refl
+refused-line refusal.ArenaLength = refl
+
+-- So is each refusal of a making.
+pub not-made-line : (r : InitRefusal) → answerLine (answer.NotMade r) ≡ lineOf (ascii "no") (initNumberOf r ∷ [])
+not-made-line initRefusal.ArenaLength = refl
+not-made-line initRefusal.TableLength = refl
+not-made-line initRefusal.BadQuota = refl
 
 -- The line of an answer, a word of two letters and a number, has at most 14 bytes.
 pub put-line : (word : List ℕ) (n : ℕ) {text buffer after : List ℕ} {at p : ℕ} → text ≡ lineOf word (n ∷ []) → length word ≡ 2 → n < 2 ^ 32

@@ -1,12 +1,12 @@
 -- What a line of a script may be, and what is written in answer: document 01's "The script program".
 -- Assumes nothing.
-use Prim.Native.Nat.{ℕ}
+use Prim.Native.Nat.{ℕ, zero, suc}
 use mathlib.Core.List.{List, [], _∷_}
 use mathlib.Core.Option.{Option, none, some}
 use lib.Dec.{leb}
 use lib.ListN.{length}
 use Rattle.model.specs.Choose.{choose}
-use Rattle.model.specs.Numbers.{numberOf, initNumberOf}
+use Rattle.model.specs.Numbers.{numberOf, initNumberOf, Numbered}
 use Rattle.script.specs.Text.{ascii, fieldsOf, numberIn, same, lineOf}
 use Rattle.script.specs.declared.Command.{Command}
 use Rattle.script.specs.declared.Command.the-variants.{Limit, Make, Ask, Back, Unreadable}
@@ -41,9 +41,18 @@ commandOf (w ∷ a ∷ b ∷ c ∷ d ∷ fs) = Unreadable
 unfoldable pub readLine : List ℕ → Command
 readLine line = choose (leb (length line) 80) (commandOf (fieldsOf line)) Unreadable
 
--- An answer is written `ok V` with its value, or `no N` with document 01's number; 14 is a line that cannot be read.
+-- The number and the value of each answer: 0 and V, or the refusal's number and 0; 14 is a line that cannot be read.
+abbrev pub answerNumbered : Answer → Numbered
+answerNumbered (answer.Ok v) = (0, v ∷ [])
+answerNumbered (answer.Refused r) = (numberOf r, 0 ∷ [])
+answerNumbered (answer.NotMade r) = (initNumberOf r, 0 ∷ [])
+answerNumbered answer.Unreadable = (14, 0 ∷ [])
+
+-- `ok V` is written where there is no number, `no N` where there is.
+abbrev pub numberedLine : ℕ → List ℕ → List ℕ
+numberedLine zero values = lineOf (ascii "ok") values
+numberedLine (suc n) values = lineOf (ascii "no") (suc n ∷ [])
+
+-- An answer is written by its number and its value.
 abbrev pub answerLine : Answer → List ℕ
-answerLine (answer.Ok v) = lineOf (ascii "ok") (v ∷ [])
-answerLine (answer.Refused r) = lineOf (ascii "no") (numberOf r ∷ [])
-answerLine (answer.NotMade r) = lineOf (ascii "no") (initNumberOf r ∷ [])
-answerLine answer.Unreadable = lineOf (ascii "no") (14 ∷ [])
+answerLine a = numberedLine (answerNumbered a .0) (answerNumbered a .1)

@@ -1,14 +1,15 @@
 -- What a script is carried out on, and what each command answers and leaves, for every state.
 -- Assumes nothing.
-use Prim.Native.Nat.{ℕ, _-_, _*_, min}
+use Prim.Native.Nat.{ℕ, _-_, _*_}
 use mathlib.Core.Bool.{not}
 use mathlib.Core.List.{List, [], _∷_, _++_}
 use lib.Dec.{ltb}
-use lib.ListN.{length, take, drop, set}
+use lib.ListN.{length, take, drop, set, replicate}
 use Rattle.model.specs.Choose.{either}
 use Rattle.model.specs.Quantities.{isArena, isTable}
 use Rattle.model.specs.Reasons.{badOwner, badQuota}
 use Rattle.model.specs.Orders.{Order, unless}
+use Rattle.model.specs.Numbers.{numberOf, initNumberOf, Numbered, numberedBy}
 use Rattle.segments.specs.Rows.{segmentsIn}
 use Rattle.heap.specs.Stored.{Stored, handed}
 use Rattle.heap.specs.Calls as calls
@@ -43,7 +44,7 @@ machine s ws bs = record { script = s; table = ws; arena = bs }
 
 -- Before any make all quotas are 0, and the all-zero record is not valid.
 abbrev pub started : Script
-started = record { plan = record { «granule_quotas» = calls.zeroHeap .«granule_quotas»; «block_quotas» = calls.zeroHeap .«block_quotas» }; heap = calls.zeroHeap }
+started = record { plan = record { «granule_quotas» = replicate 8 0; «block_quotas» = replicate 8 0 }; heap = calls.zeroHeap }
 
 -- A call on the heap leaves its record; the quotas for the next make stay.
 abbrev pub withHeap : Script → Heap → Script
@@ -101,7 +102,7 @@ module _ (m : Machine) where
   abbrev pub leaving : Stored → List ℕ → Machine
   leaving t bs = machine (withHeap (m .script) (t .heap)) (t .words ++ drop (4 * heap .capacity) (m .table)) bs
 
-  -- Its quotas take effect at the next make.
+  -- `limit O G B` sets the owner's quotas for the next make; the heap stays.
   abbrev pub limited : ℕ → ℕ → ℕ → Machine
   limited o g b =
       machine
@@ -112,10 +113,10 @@ module _ (m : Machine) where
       (m .table)
       (m .arena)
 
-  -- For `make BYTES ROWS`: 11, 12, 13. There is no room for more bytes than 65,536 or than are lent, nor for more rows than are lent.
+  -- For `make BYTES ROWS`: 11, 12, 13. 11 is also more bytes than 65,536 or than are lent, 12 more rows than are lent.
   unfoldable pub makeOrder : ℕ → ℕ → Order InitRefusal
   makeOrder b r =
-      (either (not (isArena b)) (ltb (min mostBytes (length (m .arena))) b), initRefusal.ArenaLength)
+      (either (not (isArena b)) (either (ltb mostBytes b) (ltb (length (m .arena)) b)), initRefusal.ArenaLength)
       ∷ (either (not (isTable (4 * r))) (ltb (length (m .table)) (4 * r)), initRefusal.TableLength)
       ∷ badQuota plan
       ∷ []
@@ -136,6 +137,14 @@ module _ (m : Machine) where
   answerTo (command.Back o x) = freedAnswer (calls.free stored bytes o x)
   answerTo command.Unreadable = answer.Unreadable
 
+  -- In numbers this is what the order says: 0 and V, or the number of the first reason and 0.
+  abbrev pub numberedTo : Command → Numbered
+  numberedTo (command.Limit o g b) = numberedBy numberOf (limitOrder o) (g ∷ [])
+  numberedTo (command.Make b r) = numberedBy initNumberOf (makeOrder b r) (b ∷ [])
+  numberedTo (command.Ask o n a) = calls.numberedAlloc stored o n a
+  numberedTo (command.Back o x) = calls.numberedFree stored bytes o x
+  numberedTo command.Unreadable = (14, 0 ∷ [])
+
   -- A command that is refused leaves all as it was: after a refused make there is the heap that there was.
   abbrev pub after : Command → Machine
   after (command.Limit o g b) = unless (limitOrder o) (limited o g b) (λ r. m)
@@ -151,6 +160,6 @@ module _ (m : Machine) where
       segLines (segmentsIn (heap .rows) words) ++ lineOf (ascii "sum") (used ∷ free ∷ peak ∷ longest ∷ [])
   closingWith (totals.Refused r) = []
 
-  -- There is a heap if its totals are not refused, that is, if it is valid (`proofs/Laws`: exactly if some make was granted).
+  -- There is a heap if its totals are not refused, that is, if it is valid; after a script from its start on, exactly if some make was granted (`proofs/Laws`).
   abbrev pub closing : List ℕ
   closing = closingWith (calls.totalsOf stored)

@@ -22,17 +22,17 @@ afterLines m (l ∷ ls) = afterLines (after m (readLine l)) ls
 abbrev pub answersAndClosing : Machine → List (List ℕ) → List ℕ
 answersAndClosing m ls = answersTo m ls ++ closing (afterLines m ls)
 
--- The whole output for an input, whatever the words and bytes that are lent hold.
-abbrev pub transcript : List ℕ → List ℕ → List ℕ → List ℕ
-transcript table arena input = answersAndClosing (machine started table arena) (linesOf input)
+-- The whole output for an input, with these words and bytes lent.
+abbrev pub output : List ℕ → List ℕ → List ℕ → List ℕ
+output table arena input = answersAndClosing (machine started table arena) (linesOf input)
 
 -- Of a line whose newline has not come yet the first 81 bytes are held: one more than a line may have.
 abbrev pub mostHeld : ℕ
 mostHeld = 81
 
--- A session holds what has come of a line.
+-- A session holds what has come of a line: the first bytes of its own 81.
 abbrev pub held : Session → List ℕ
-held s = take (s .held) (s .line)
+held s = take (s .count) (s .line)
 
 -- With a part of the input these are the pieces: the first goes on with what is held, and the last has no newline yet.
 abbrev pub piecesWith : List ℕ → List ℕ → List (List ℕ)
@@ -50,6 +50,6 @@ abbrev pub joined : List (List ℕ) → List ℕ
 joined [] = []
 joined (part ∷ parts) = part ++ joined parts
 
--- Of an input so many bytes are taken at once: no answer has more than 14, so that all answers have room.
+-- Of an input so many bytes are taken at once that all answers have room: each line takes a byte at least, and its answer 14 at most.
 abbrev pub takenOf : List ℕ → List ℕ → ℕ
 takenOf input buffer = min (length input) (length buffer / 14)

@@ -9,7 +9,7 @@ ghost use Rattle.script.specs.Text.{numberIn, same, decimal, spaced, lin
 ghost use Rattle.script.specs.Commands.{readLine, answerLine};
 ghost use Rattle.script.specs.Machine.{machine, mostBytes, started, withHeap, placedAnswer, freedAnswer, segLines, closing};
 ghost use Rattle.script.specs.Session.{mostHeld};
-ghost use Rattle.script.specs.Promises.{CommandDone, FeedDone, FinishDone};
+ghost use Rattle.script.specs.Promises.{CommandDone, FeedDone, WriteDone, answerMost, FinishDone};
 ghost use Rattle.script.specs.Steps.{before, following, numberRead, withNumber, numbersRead, wordRead, commandFor, partOf, Put, heldWith, AnswerDone};
 use heap::Heap;
 use heap::is_owner;
@@ -66,11 +66,11 @@ pub struct Carried {
     pub script: Script,
 }
 
-// A script whose input comes in parts: what has come of a line is the first `held` bytes of `line`, 81 of a line that is too long.
+// A script whose input comes in parts: what has come of a line is the first `count` bytes of `line`, 81 of a line that is too long.
 pub struct Session {
     pub script: Script,
     pub line: [u8; 81],
-    pub held: u32,
+    pub count: u32,
 }
 
 // The session after a part of the input, the bytes that were taken of it, and the bytes that were written.
@@ -78,6 +78,12 @@ pub struct Fed {
     pub session: Session,
     pub taken: usize,
     pub written: usize,
+}
+
+// How many bytes were put into a lent buffer, or that it is too short.
+pub enum Written {
+    Bytes(usize),
+    NoRoom,
 }
 
 // The script after a line, and the place after its answer.
@@ -405,7 +411,7 @@ fn ask(script: Script, table: &mut [u32], owner: u32, size: u32, align: u32) -> 
     }
 }
 
-// `back O OFFSET`: a free. Refused with 1, 2, 9, 10, in this order: the arena is the one recorded, unless the record is not valid.
+// `back O OFFSET`: a free. Refused with 1, 11, 2, 9, 10, in this order; 11 only if fewer bytes are lent than the heap was made with.
 fn back(script: Script, table: &mut [u32], arena: &mut [u8], owner: u32, offset: u32) -> Carried
     ensures { λ r. ⌜ CommandDone script (now (table .entry)) (now (arena .entry)) (Command.Back owner offset) r (now (table .exit)) (now (arena .exit)) ⌝ }
 {
@@ -513,6 +519,16 @@ fn put_answer(out: &mut [u8], at: usize, answer: Answer) -> usize
     }
 }
 
+// Puts an answer's line at the front of a lent buffer of at least 14 bytes. A shorter buffer stays as it was.
+pub fn write_answer(answer: Answer, out: &mut [u8]) -> Written
+    ensures { λ r. ⌜ WriteDone (answerLine answer) answerMost (now (out .entry)) r (now (out .exit)) ⌝ }
+{
+    if out.len() < 14 {
+        return Written::NoRoom;
+    }
+    Written::Bytes(put_answer(out, 0, answer))
+}
+
 // Puts the lines of the first rows of a table, each of at most 50 bytes.
 fn put_rows(out: &mut [u8], at: usize, table: &[u32], rows: usize) -> usize
     requires { ⌜ (at + 50 * rows ≤ length (now out)) × (4 * rows ≤ length (now table)) ⌝ }
@@ -536,10 +552,10 @@ fn put_rows(out: &mut [u8], at: usize, table: &[u32], rows: usize) -> usize
     end
 }
 
-// Puts what comes at the end: nothing if there is no heap.
+// Puts what comes at the end, at most 512 rows and the totals: nothing if there is no heap.
 fn put_closing(out: &mut [u8], at: usize, script: Script, table: &[u32]) -> usize
-    requires { ⌜ at + 25700 ≤ length (now out) ⌝ }
-    ensures { λ r. ⌜ ((bs : List ℕ) → Put (closing (machine script (now (table .entry)) bs)) (now (out .entry)) at r (now (out .exit))) × (r ≤ at + 25700) ⌝ }
+    requires { ⌜ at + 25650 ≤ length (now out) ⌝ }
+    ensures { λ r. ⌜ ((bs : List ℕ) → Put (closing (machine script (now (table .entry)) bs)) (now (out .entry)) at r (now (out .exit))) × (r ≤ at + 25650) ⌝ }
 {
     let heap = script.heap;
     let n = words_in_use(heap.capacity, table.len());
@@ -628,7 +644,7 @@ fn answer_command(
 
 // A session before any line.
 pub fn start() -> Session
-    ensures { λ r. ⌜ (r .script ≡ started) × (r .line ≡ replicate mostHeld 0) × (r .held ≡ 0) ⌝ }
+    ensures { λ r. ⌜ (r .script ≡ started) × (r .line ≡ replicate mostHeld 0) × (r .count ≡ 0) ⌝ }
 {
     Session {
         script: Script {
@@ -639,11 +655,12 @@ pub fn start() -> Session
             heap: zero_heap(),
         },
         line: [0; 81],
-        held: 0,
+        count: 0,
     }
 }
 
-// Answers each line that ends in a part of the input, and holds what is begun of the next. Of the part so many bytes are taken that the answers have room.
+// Answers each line that ends in a part of the input, and holds what is begun of the next. Of the part as many bytes are taken as the answers have room for:
+// all with 14 bytes of buffer for each, none with fewer than 14 bytes of buffer.
 pub fn feed(
     session: Session,
     table: &mut [u32],
@@ -655,7 +672,7 @@ pub fn feed(
 {
     let taken = least(input.len(), out.len() / 14);
     let line = session.line;
-    let mut held = session.held;
+    let mut held = session.count;
     let mut script = session.script;
     let mut end = 0;
     let mut at = 0;
@@ -675,27 +692,28 @@ pub fn feed(
         session: Session {
             script: script,
             line: bytes,
-            held: begun.count,
+            count: begun.count,
         },
         taken: taken,
         written: end,
     }
 }
 
-// The end of the input: answers what is held, a line without its newline, and puts the rows and the totals. Nothing is done if the buffer is too short.
-pub fn finish(session: Session, table: &mut [u32], arena: &mut [u8], out: &mut [u8]) -> usize
+// The end of the input: answers what is held, a line without its newline, and puts the rows and the totals. A buffer of fewer than 25,664 bytes may be too
+// short for them: then nothing is done.
+pub fn finish(session: Session, table: &mut [u32], arena: &mut [u8], out: &mut [u8]) -> Written
     ensures { λ r. ⌜ FinishDone session (now (table .entry)) (now (arena .entry)) (now (out .entry)) r (now (table .exit)) (now (arena .exit)) (now (out .exit)) ⌝ }
 {
-    if out.len() < 32768 {
-        return 0;
+    if out.len() < 25664 {
+        return Written::NoRoom;
     }
     let script = session.script;
-    if session.held == 0 {
-        return put_closing(out, 0, script, table);
+    if session.count == 0 {
+        return Written::Bytes(put_closing(out, 0, script, table));
     }
     let line = session.line;
-    let command = read_held(line, session.held);
+    let command = read_held(line, session.count);
     let done = answer_command(script, table, arena, command, out, 0);
     let after = done.script;
-    put_closing(out, done.end, after, table)
+    Written::Bytes(put_closing(out, done.end, after, table))
 }

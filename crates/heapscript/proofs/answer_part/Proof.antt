@@ -26,20 +26,20 @@ large-buffer-requires c κs = search needs
 array-share-prefix-input : tie.Need-array-share-prefix-input
 array-share-prefix-input c = search needs
 
-slice-aggregate-feed : tie.Need-slice-aggregate-feed
-slice-aggregate-feed c = search needs
+slice-aggregate-answer-whole : tie.Need-slice-aggregate-answer-whole
+slice-aggregate-answer-whole c = search needs
 
-slice-aggregate-feed-2 : tie.Need-slice-aggregate-feed-2
-slice-aggregate-feed-2 c = search needs
+slice-aggregate-answer-whole-2 : tie.Need-slice-aggregate-answer-whole-2
+slice-aggregate-answer-whole-2 c = search needs
 
-feed-requires : tie.Need-feed-requires
-feed-requires c κs = search needs
+answer-whole-requires : tie.Need-answer-whole-requires
+answer-whole-requires c κs = search needs
 
 array-share-prefix-out : tie.Need-array-share-prefix-out
-array-share-prefix-out c = fed-counts (c .before .before .before .before .before .feed .ensures) .0
+array-share-prefix-out c = fed-counts (c .before .before .before .before .before .answer-whole .ensures .1) .0
 
 slice-aggregate-write-all : tie.Need-slice-aggregate-write-all
-slice-aggregate-write-all c = fed-counts (c .before .before .before .before .before .before .feed .ensures) .1
+slice-aggregate-write-all c = fed-counts (c .before .before .before .before .before .before .answer-whole .ensures .1) .1
 
 write-all-requires : tie.Need-write-all-requires
 write-all-requires c κs = search needs
@@ -53,15 +53,6 @@ same-length-2 c = search needs
 returns : tie.Need-returns
 returns c = search needs
 
-same-length-3 : tie.Need-same-length-3
-same-length-3 c = search needs
-
-same-length-4 : tie.Need-same-length-4
-same-length-4 c = search needs
-
-returns-2 : tie.Need-returns-2
-returns-2 c = search needs
-
 pub answer-part-spec : {M : Type 1} → statement M
 answer-part-spec =
     tie.close
@@ -73,15 +64,12 @@ answer-part-spec =
     count-requires
     large-buffer-requires
     array-share-prefix-input
-    slice-aggregate-feed
-    slice-aggregate-feed-2
-    feed-requires
+    slice-aggregate-answer-whole
+    slice-aggregate-answer-whole-2
+    answer-whole-requires
     array-share-prefix-out
     slice-aggregate-write-all
     write-all-requires
     same-length
     same-length-2
-    returns
-    same-length-3
-    same-length-4
-    returns-2)
+    returns)

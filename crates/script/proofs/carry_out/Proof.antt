@@ -2,6 +2,7 @@
 -- Assumes nothing.
 use mathlib.Core.Path.{refl}
 use borrow.Author.Needs.{needs}
+use Rattle.script.proofs.Carrying.{command-done}
 use Rattle.script.proofs.carry_out.Statement.{statement}
 use Rattle.script.proofs.carry_out.Tie as tie
 
@@ -66,7 +67,7 @@ returns-4 c =
     rw (d .before .before .before .before .command4 .given .1) (d .back .ensures)
 
 returns-5 : tie.Need-returns-5
-returns-5 c = rw (c .enum-told .given .1) (record { answer = refl; leaves = refl })
+returns-5 c = rw (c .enum-told .given .1) (command-done refl refl)
 
 pub carry-out-spec : {M : Type 1} → statement M
 carry-out-spec =

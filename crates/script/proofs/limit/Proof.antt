@@ -5,7 +5,7 @@ use mathlib.Core.Path.{_≡_, sym, _∙_}
 use mathlib.Core.Bool.{true}
 use Rattle.model.specs.Quantities.{isOwner}
 use Rattle.heap.proofs.Asking.{owner-least, owner-index}
-use Rattle.script.proofs.Carrying.{limit-refused}
+use Rattle.script.proofs.Carrying.{command-done, limit-refused}
 use borrow.Author.Needs.{needs}
 use Rattle.script.proofs.limit.Statement.{statement}
 use Rattle.script.proofs.limit.Tie as tie
@@ -41,7 +41,7 @@ array-write-block-quotas c = owner-index _ (owner (c .before .before .before))
 returns-2 : tie.Need-returns-2
 returns-2 c ws bs =
     let e = owner (c .before .before .before .before) in
-    record { answer = rw e; leaves = rw e }
+    command-done (rw e) (rw e)
 
 pub limit-spec : {M : Type 1} → statement M
 limit-spec =

@@ -6,7 +6,7 @@ use native.Mathlib.Omega.{arith}
 use borrow.Author.Needs.{needs}
 use Rattle.script.specs.Text.{ascii, lineOf}
 use Rattle.script.specs.Commands.{answerLine}
-use Rattle.script.proofs.Writing.{one-most, put-line}
+use Rattle.script.proofs.Writing.{one-most, refused-line, not-made-line, put-line}
 use Rattle.script.proofs.put_answer.Statement.{statement}
 use Rattle.script.proofs.put_answer.Tie as tie
 
@@ -75,7 +75,7 @@ returns-2 : tie.Need-returns-2
 returns-2 c =
     let d = c .before .before .before .before .before .before .before in
     let n = c .before .before .before .number in
-    put-line (ascii "no") (n .result) (ap answerLine (d .answer2 .given .1) ∙ ap (λ k. lineOf (ascii "no") (k ∷ [])) (sym (n .ensures))) refl (omega arith) (c .before .before .put-one2 .ensures)
+    put-line (ascii "no") (n .result) (ap answerLine (d .answer2 .given .1) ∙ refused-line (d .answer2 .given .0 .0) ∙ ap (λ k. lineOf (ascii "no") (k ∷ [])) (sym (n .ensures))) refl (omega arith) (c .before .before .put-one2 .ensures)
 
 same-length-3 : tie.Need-same-length-3
 same-length-3 c = search needs
@@ -84,7 +84,7 @@ returns-3 : tie.Need-returns-3
 returns-3 c =
     let d = c .before .before .before .before .before .before .before in
     let n = c .before .before .before .init-number in
-    put-line (ascii "no") (n .result) (ap answerLine (d .answer3 .given .1) ∙ ap (λ k. lineOf (ascii "no") (k ∷ [])) (sym (n .ensures))) refl (omega arith) (c .before .before .put-one3 .ensures)
+    put-line (ascii "no") (n .result) (ap answerLine (d .answer3 .given .1) ∙ not-made-line (d .answer3 .given .0 .0) ∙ ap (λ k. lineOf (ascii "no") (k ∷ [])) (sym (n .ensures))) refl (omega arith) (c .before .before .put-one3 .ensures)
 
 same-length-4 : tie.Need-same-length-4
 same-length-4 c = search needs
