@@ -28,9 +28,9 @@ impl Machine {
                 size,
                 alignment,
             } => self
-                .sound_heap()?
+                .valid_heap()?
                 .alloc(owner.into(), size.into(), alignment.into()),
-            Request::Free { owner, offset } => self.sound_heap()?.free(owner.into(), offset.into()),
+            Request::Free { owner, offset } => self.valid_heap()?.free(owner.into(), offset.into()),
         }
     }
 
@@ -38,8 +38,8 @@ impl Machine {
         self.heap.as_ref()
     }
 
-    fn sound_heap(&mut self) -> Result<&mut Heap, Refusal> {
-        self.heap.as_mut().ok_or(Refusal::NotSound)
+    fn valid_heap(&mut self) -> Result<&mut Heap, Refusal> {
+        self.heap.as_mut().ok_or(Refusal::InvalidHeap)
     }
 
     /// Any figures will do here: the making looks at their range.

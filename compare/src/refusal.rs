@@ -2,7 +2,8 @@
 
 #[derive(Clone, Copy, Debug, PartialEq, Eq, PartialOrd, Ord)]
 pub enum Refusal {
-    NotSound = 1,
+    /// 01's "not a sound heap".
+    InvalidHeap = 1,
     Owner = 2,
     SizeZero = 3,
     Alignment = 4,
@@ -22,7 +23,7 @@ impl Refusal {
     /// Every refusal that a run of many scripts has to meet. A number that
     /// joins the list above joins this one.
     pub const EXPECTED: [Refusal; 14] = [
-        Refusal::NotSound,
+        Refusal::InvalidHeap,
         Refusal::Owner,
         Refusal::SizeZero,
         Refusal::Alignment,

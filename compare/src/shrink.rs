@@ -99,17 +99,23 @@ impl Shrinker<'_> {
         let mut units = split(&script);
         let mut run = units.len().next_power_of_two();
         while run > 0 {
-            let mut at = 0;
-            while at < units.len() && !self.is_spent() {
-                let end = units.len().min(at + run);
-                let rest = [&units[..at], &units[end..]].concat();
-                match self.keeps_bytes(rest.concat()) {
-                    true => units = rest,
-                    false => at = end,
-                }
-            }
+            units = self.leave_out_runs(units, run);
             run /= 2;
         }
+    }
+
+    /// Leaves out each run of so many units that is not needed.
+    fn leave_out_runs<'a>(&mut self, mut units: Vec<&'a [u8]>, run: usize) -> Vec<&'a [u8]> {
+        let mut at = 0;
+        while at < units.len() && !self.is_spent() {
+            let end = units.len().min(at + run);
+            let rest = [&units[..at], &units[end..]].concat();
+            match self.keeps_bytes(rest.concat()) {
+                true => units = rest,
+                false => at = end,
+            }
+        }
+        units
     }
 
     /// Puts plainer bytes in the place of others, the first that will do.

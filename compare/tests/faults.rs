@@ -33,8 +33,8 @@ fn first(fault: Fault, threads: usize) -> (u64, Difference) {
     }
 }
 
-/// Bytes that suffice to show a fault. The last two need a line or a script of
-/// some length to show at all.
+/// Bytes that suffice to show a fault. The two named here need a line or a
+/// script of some length to show at all.
 fn enough_bytes(fault: Fault) -> usize {
     match fault {
         Fault::LengthInAByte => 300,

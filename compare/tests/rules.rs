@@ -131,7 +131,7 @@ fn a_refused_make_keeps_the_heap() {
 }
 
 #[test]
-fn before_any_make_no_heap_is_sound() {
+fn before_any_make_there_is_no_heap() {
     expect(
         "ask 9 0 3/back 0 1/make 8 1/ask 1 1 16/back 1 0",
         "no 1/no 1/no 11/no 1/no 1",

@@ -7,8 +7,8 @@ use script::Fed;
 use script::Session;
 use script::Written;
 
-// The session after a part of the input, whether it was read and its answers written, and whether it was the end.
-struct Turn {
+// How far the input is answered: the session after a part, whether that was read and its answers written, and whether it was the end.
+struct Progress {
     session: Session,
     ok: bool,
     end: bool,
@@ -29,7 +29,7 @@ fn answer_whole(
 }
 
 // Reads a part of the input, 4,096 bytes at most, and writes its answers.
-fn answer_part(session: Session, table: &mut [u32], arena: &mut [u8]) -> Turn {
+fn answer_part(session: Session, table: &mut [u32], arena: &mut [u8]) -> Progress {
     let mut input = io::buffer();
     let got = libc::read(0, &mut input);
     let n = io::count(got, &input);
@@ -38,7 +38,7 @@ fn answer_part(session: Session, table: &mut [u32], arena: &mut [u8]) -> Turn {
     let written = fed.written;
     let ok = io::write_all(1, &out[..written]);
     let after = fed.session;
-    Turn {
+    Progress {
         session: after,
         ok: ok && 0 <= got,
         end: n == 0,
@@ -46,22 +46,22 @@ fn answer_part(session: Session, table: &mut [u32], arena: &mut [u8]) -> Turn {
 }
 
 // Answers the whole input, part by part, up to its end or the first failure. A loop needs a count that falls: no input has so many parts.
-fn answer_input(session: Session, table: &mut [u32], arena: &mut [u8]) -> Turn {
-    let mut turn = Turn {
+fn answer_input(session: Session, table: &mut [u32], arena: &mut [u8]) -> Progress {
+    let mut progress = Progress {
         session: session,
         ok: true,
         end: false,
     };
     let mut parts: u64 = 18446744073709551615;
     while 0 < parts {
-        let s = turn.session;
-        turn = answer_part(s, table, arena);
-        if turn.end || !turn.ok {
-            return turn;
+        let s = progress.session;
+        progress = answer_part(s, table, arena);
+        if progress.end || !progress.ok {
+            return progress;
         }
         parts -= 1;
     }
-    turn
+    progress
 }
 
 // Writes what comes at the end.
@@ -78,9 +78,9 @@ fn write_end(session: Session, table: &mut [u32], arena: &mut [u8]) -> bool {
 fn main() {
     let mut table = [0u32; 2048];
     let mut arena = [0u8; 65536];
-    let turn = answer_input(script::start(), &mut table, &mut arena);
-    let session = turn.session;
-    if turn.ok && write_end(session, &mut table, &mut arena) {
+    let progress = answer_input(script::start(), &mut table, &mut arena);
+    let session = progress.session;
+    if progress.ok && write_end(session, &mut table, &mut arena) {
         return;
     }
     io::write_all(2, b"heapscript: reading or writing failed\n");

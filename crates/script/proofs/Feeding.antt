@@ -23,12 +23,12 @@ use Rattle.script.specs.declared.Fed.{Fed}
 use Rattle.script.specs.declared.Command.{Command}
 
 -- A newline ends the first piece, which goes on with what came before.
-pub newline-next : (p l : List ℕ) → before 10 l < length l → piecesWith p l ≡ (p ++ take (before 10 l) l) ∷ piecesWith [] (drop (before 10 l + 1) l)
+newline-next : (p l : List ℕ) → before 10 l < length l → piecesWith p l ≡ (p ++ take (before 10 l) l) ∷ piecesWith [] (drop (before 10 l + 1) l)
 newline-next p l h =
     rw (pieces-first 10 l, drop-cons l (before 10 l) 0, add-one, prefixed-none)
 
 -- Without a newline there is one piece.
-pub newline-none : (p l : List ℕ) → before 10 l ≡ length l → piecesWith p l ≡ (p ++ l) ∷ []
+newline-none : (p l : List ℕ) → before 10 l ≡ length l → piecesWith p l ≡ (p ++ l) ∷ []
 newline-none p l e = rw (pieces-first 10 l, e, drop-length, take-length)
 
 -- What is left to do of a part of the input, from `at` on with p before it, after what was written so far.
@@ -72,7 +72,7 @@ module _ (m₀ : Machine) (p₀ part room : List ℕ) (m : Machine) (p buffer : 
       newline-next p (drop at part) (omega (arith, s .until, s .inside)) ∙ rw (b, drop-drop, z)
 
   -- Its answer is written after the others, and what is left begins after the newline.
-  pub feed-line : next < length part → (m′ : Machine) → m′ ≡ after m (readLine nextLine) → (buffer′ : List ℕ) (end′ : ℕ)
+  feed-line : next < length part → (m′ : Machine) → m′ ≡ after m (readLine nextLine) → (buffer′ : List ℕ) (end′ : ℕ)
       → Put (answerLine (answerTo m (readLine nextLine))) buffer end end′ buffer′ → end′ ≤ end + 14
       → Feeding m₀ p₀ part room m′ [] buffer′ end′ (next + 1) (next + 1 + before 10 (drop (next + 1) part))
   feed-line h m′ e buffer′ end′ put most =
@@ -104,7 +104,7 @@ module _ (m₀ : Machine) (p₀ part room : List ℕ) (m : Machine) (p buffer : 
       }
 
   -- With no newline left, all lines are answered, and what is left is held with what was before it.
-  pub fed-all : length part ≤ next → piecesWith p (drop at part) ≡ (p ++ drop at part) ∷ []
+  fed-all : length part ≤ next → piecesWith p (drop at part) ≡ (p ++ drop at part) ∷ []
   fed-all h =
       newline-none p (drop at part) (rw length-drop (omega (arith, s .until, s .inside, before-most 10 (drop at part), length-drop at part)))
 
@@ -128,15 +128,19 @@ feed-input m₀ p₀ room m p buffer end at next input taken inside s h k e m′
 module _ (s : Session) (words bytes input room : List ℕ) (script : Script) (wordsAfter bytesAfter buffer : List ℕ) (end at next h taken : ℕ) (t : taken ≡ takenOf input room)
     (f : Feeding (machine (s .script) words bytes) (held s) (take taken input) room (machine script wordsAfter bytesAfter) (take h (s .line)) buffer end at next)
     (over : taken ≤ next) where
+  -- The part has so many bytes.
   whole : length (take taken input) ≡ taken
   whole = length-take-le taken input (omega (arith, t))
 
+  -- Its pieces are those that are promised.
   same-pieces : fedPieces s words bytes input room ≡ piecesWith (held s) (take taken input)
   same-pieces = rw (← t)
 
+  -- One piece is left, which no newline ends.
   last-piece : piecesWith (take h (s .line)) (drop at (take taken input)) ≡ (take h (s .line) ++ drop at (take taken input)) ∷ []
   last-piece = fed-all _ _ _ _ _ _ _ _ _ _ f (omega (arith, whole))
 
+  -- What was written are the answers to the others.
   same-text : fedText s words bytes input room ≡ f .text
   same-text =
       ap (λ (ls : List (List ℕ)). answersTo (machine (s .script) words bytes) (ended ls)) same-pieces
@@ -144,6 +148,7 @@ module _ (s : Session) (words bytes input room : List ℕ) (script : Script) (wo
       ∙ ap (λ (ls : List (List ℕ)). f .text ++ answersTo (machine script wordsAfter bytesAfter) (ended ls)) last-piece
       ∙ append-nil (f .text)
 
+  -- That piece is what is begun.
   begun-piece : unended (fedPieces s words bytes input room) ≡ take h (s .line) ++ take (taken - at) (drop at input)
   begun-piece =
       ap unended same-pieces
@@ -151,6 +156,7 @@ module _ (s : Session) (words bytes input room : List ℕ) (script : Script) (wo
       ∙ ap unended last-piece
       ∙ ap (λ (x : List ℕ). take h (s .line) ++ x) (drop-take input at taken (omega (arith, f .inside, whole)) (omega (arith, t)))
 
+  -- So the promise is kept.
   pub fed-done : (w : Held) → w ≡ heldWith (s .line) h (take (taken - at) (drop at input))
       → FeedDone s words bytes input room (record { session = record { script = script; line = w .line; count = w .count }; taken = taken; written = end }) wordsAfter bytesAfter buffer
   fed-done w e =

@@ -76,7 +76,7 @@ pieces-joined s (b ∷ bs) =
 abbrev pub isOther : ℕ → ℕ → Bool
 isOther s b = not (eqb b s)
 
--- No piece holds a separator: each is as long as can be.
+-- No piece holds a separator: every separator ends one.
 pub pieces-apart : (s : ℕ) (bs : List ℕ) → every (every (isOther s)) (pieces s bs) ≡ true
 pieces-apart s [] = refl
 pieces-apart s (b ∷ bs) =
@@ -89,9 +89,9 @@ pieces-apart s (b ∷ bs) =
     prefixed-apart (f ∷ fs) h e = rw (h, e)
 
 -- One more digit.
-value-more : (v : ℕ) (ds : List ℕ) (d : ℕ) → valueFrom v (ds ++ (d ∷ [])) ≡ 10 * valueFrom v ds + (d - 48)
-value-more v [] d = refl
-value-more v (c ∷ ds) d = value-more (10 * v + (c - 48)) ds d
+value-last : (v : ℕ) (ds : List ℕ) (d : ℕ) → valueFrom v (ds ++ (d ∷ [])) ≡ 10 * valueFrom v ds + (d - 48)
+value-last v [] d = refl
+value-last v (c ∷ ds) d = value-last (10 * v + (c - 48)) ds d
 
 -- The value of the digits of n.
 value-digits : (k n : ℕ) → n < k → valueOf (digitsWithin k n) ≡ n
@@ -100,7 +100,7 @@ value-digits (suc k) n h =
     split (ltb n 10)
     (λ q. rw q (omega arith))
     (λ q. let less : n / 10 < k = omega tests in
-    rw (q, value-more 0 (digitsWithin k (n / 10)) (48 + n % 10), value-digits k (n / 10) less) (omega arith))
+    rw (q, value-last 0 (digitsWithin k (n / 10)) (48 + n % 10), value-digits k (n / 10) less) (omega arith))
 
 -- The value of what is written for n is n.
 pub value-decimal : (n : ℕ) → valueOf (decimal n) ≡ n
@@ -227,7 +227,7 @@ abbrev pub makes : Machine → List (List ℕ) → Bool
 makes m [] = false
 makes m (l ∷ ls) = either (both (isMake (readLine l)) (isOk (answerTo m (readLine l)))) (makes (after m (readLine l)) ls)
 
--- Of three tests one holds.
+-- Whether one of three tests holds does not depend on how they are grouped.
 either-three : (a b c : Bool) → either (either a b) c ≡ either a (either b c)
 either-three true b c = refl
 either-three false b c = refl
@@ -326,16 +326,16 @@ unfolding totalsOrder
 closing-some m v e = not-empty (segLines (segmentsIn (heap m .rows) (words m))) _ _ (rw v at e)
 
 -- Where there is none, nothing is.
-closing-none : (m : Machine) → isValid (stored m) ≡ false → closing m ≡ []
+closing-empty : (m : Machine) → isValid (stored m) ≡ false → closing m ≡ []
 unfolding totalsOrder
-closing-none m v = rw v
+closing-empty m v = rw v
 
 -- So from the start rows and totals are written at the end exactly if some make was granted.
 pub closing-made : (table arena : List ℕ) (ls : List (List ℕ))
     → (makes (machine started table arena) ls ≡ false → closing (afterLines (machine started table arena) ls) ≡ [])
     × (makes (machine started table arena) ls ≡ true → closing (afterLines (machine started table arena) ls) ≡ [] → ⊥)
 closing-made table arena ls = (
-  λ e. closing-none (afterLines (machine started table arena) ls) (heap-made table arena ls ∙ e),
+  λ e. closing-empty (afterLines (machine started table arena) ls) (heap-made table arena ls ∙ e),
   λ e. closing-some (afterLines (machine started table arena) ls) (heap-made table arena ls ∙ e),
 )
 

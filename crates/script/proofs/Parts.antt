@@ -12,7 +12,7 @@ use Rattle.model.proofs.Choosing.{split, tests}
 use Rattle.script.specs.Text.{prefixed, pieces, ended, unended, unlessEmpty}
 use Rattle.script.specs.Commands.{readLine}
 use Rattle.script.specs.Machine.{Machine, machine, started, after}
-use Rattle.script.specs.Session.{answersTo, afterLines, answersAndClosing, output, mostHeld, piecesWith, inParts, joined}
+use Rattle.script.specs.Session.{answersTo, afterLines, answersAndClosing, output, mostHeld, piecesWith, joined}
 use Rattle.script.proofs.Reading.{long-line}
 
 -- Bytes before bytes before the first piece stand before it together.
@@ -51,7 +51,7 @@ piece-followed f [] gs e = cc
 piece-followed f (g ∷ fs) gs e = refl
 
 -- The pieces of bytes and then others.
-pub pieces-append : (s : ℕ) (xs ys : List ℕ) → pieces s (xs ++ ys) ≡ followed (pieces s xs) (pieces s ys)
+pieces-append : (s : ℕ) (xs ys : List ℕ) → pieces s (xs ++ ys) ≡ followed (pieces s xs) (pieces s ys)
 pieces-append s [] ys = sym (prefixed-none s ys)
 pieces-append s (b ∷ xs) ys =
     split (eqb b s)
@@ -76,7 +76,7 @@ lines-append p xs ys =
     (lines-before (ended (piecesWith p xs)) (unended (piecesWith p xs)) (pieces 10 ys))
 
 -- Of what is begun the first 81 bytes say how the line is read.
-pub begun-reads : (p f : List ℕ) → readLine (take mostHeld p ++ f) ≡ readLine (p ++ f)
+begun-reads : (p f : List ℕ) → readLine (take mostHeld p ++ f) ≡ readLine (p ++ f)
 begun-reads p f =
     split (leb (length p) 81)
     (λ q. rw (take-all 81 p (leb-true (length p) 81 q)))
@@ -114,12 +114,12 @@ begun-holds p (f ∷ []) = begun-held p f
 begun-holds p (f ∷ g ∷ fs) = refl
 
 -- The answers to lines and then others.
-pub answers-append : (m : Machine) (ls ks : List (List ℕ)) → answersTo m (ls ++ ks) ≡ answersTo m ls ++ answersTo (afterLines m ls) ks
+answers-append : (m : Machine) (ls ks : List (List ℕ)) → answersTo m (ls ++ ks) ≡ answersTo m ls ++ answersTo (afterLines m ls) ks
 answers-append m [] ks = refl
 answers-append m (l ∷ ls) ks = rw (answers-append (after m (readLine l)) ls ks, append-assoc)
 
 -- What lines and then others leave.
-pub leaves-append : (m : Machine) (ls ks : List (List ℕ)) → afterLines m (ls ++ ks) ≡ afterLines (afterLines m ls) ks
+leaves-append : (m : Machine) (ls ks : List (List ℕ)) → afterLines m (ls ++ ks) ≡ afterLines (afterLines m ls) ks
 leaves-append m [] ks = refl
 leaves-append m (l ∷ ls) ks = leaves-append (after m (readLine l)) ls ks
 
@@ -133,6 +133,13 @@ begun-written m [] = refl
 begun-written m (b ∷ p) =
     let e : readLine (take mostHeld (b ∷ p)) ≡ readLine (b ∷ p) = first-reads (b ∷ p) in
     rw e
+
+-- What is written for an input that comes in parts, with p held of the line before the first.
+abbrev pub inParts : Machine → List ℕ → List (List ℕ) → List ℕ
+inParts m p [] = answersAndClosing m (unlessEmpty p)
+inParts m p (part ∷ parts) =
+    answersTo m (ended (piecesWith p part))
+    ++ inParts (afterLines m (ended (piecesWith p part))) (take mostHeld (unended (piecesWith p part))) parts
 
 -- What is written for parts, of a line with p begun and then the parts one after the other.
 parts-written : (m : Machine) (p : List ℕ) (parts : List (List ℕ)) → inParts m (take mostHeld p) parts ≡ answersAndClosing m (linesIn (piecesWith p (joined parts)))

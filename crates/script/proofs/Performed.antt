@@ -6,11 +6,11 @@ use Prim.Native.Nat.{ℕ}
 use lib.ListN.{take}
 use Rattle.script.specs.Text.{ended, unended}
 use Rattle.script.specs.Machine.{Machine, machine}
-use Rattle.script.specs.Session.{answersTo, answersAndClosing, afterLines, mostHeld, held, piecesWith, inParts}
+use Rattle.script.specs.Session.{answersTo, answersAndClosing, afterLines, mostHeld, held, piecesWith}
 use Rattle.script.specs.Promises.{fedPieces, fedText, lastLines}
 use Rattle.script.specs.Performed.{Feeds, Performed, NoLineLost}
 use Rattle.script.proofs.Lists.{front-text}
-use Rattle.script.proofs.Parts.{in-parts}
+use Rattle.script.proofs.Parts.{inParts, in-parts}
 use Rattle.script.proofs.Finishing.{has-room}
 use Rattle.script.specs.declared.Session.{Session}
 

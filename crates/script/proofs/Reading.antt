@@ -49,12 +49,12 @@ module _ (s : ℕ) (l : List ℕ) (i : ℕ) where
   before-none h = rw (drop-of-length-le l h)
 
 -- The first piece of what follows place i is what stands after i and before the next separator.
-pub following-first : (s : ℕ) (l : List ℕ) (i n : ℕ) → i < length l → n ≡ before s (drop (i + 1) l) → following s (drop i l) ≡ take n (drop (i + 1) l) ∷ following s (drop (i + 1 + n) l)
+following-first : (s : ℕ) (l : List ℕ) (i n : ℕ) → i < length l → n ≡ before s (drop (i + 1) l) → following s (drop i l) ≡ take n (drop (i + 1) l) ∷ following s (drop (i + 1 + n) l)
 following-first s l i n h e =
     rw (drop-cons l i 0 h, ← add-one i, pieces-first s (drop (i + 1) l), ← e, drop-drop n (i + 1) l)
 
 -- Texts with the same bytes are equal.
-pub same-equal : (a b : List ℕ) → same a b ≡ true → a ≡ b
+same-equal : (a b : List ℕ) → same a b ≡ true → a ≡ b
 same-equal [] [] e = refl
 same-equal [] (y ∷ b) e = let z : _≡_ {A = ℕ} 0 1 = cc in absurd (omega arith)
 same-equal (x ∷ a) [] e = let z : _≡_ {A = ℕ} 0 1 = cc in absurd (omega arith)

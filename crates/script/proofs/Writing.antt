@@ -62,7 +62,7 @@ digits-enough (suc k) (suc j) n h g =
     split (ltb n 10) (λ q. rw q) (λ q. rw (q, digits-enough k j (n / 10) (omega tests) (omega tests)))
 
 -- The digits of a number go by the test whether it is below ten.
-pub decimal-step : (n : ℕ) → decimal n ≡ choose (ltb n 10) ((48 + n) ∷ []) (decimal (n / 10) ++ ((48 + n % 10) ∷ []))
+decimal-step : (n : ℕ) → decimal n ≡ choose (ltb n 10) ((48 + n) ∷ []) (decimal (n / 10) ++ ((48 + n % 10) ∷ []))
 unfolding decimal
 decimal-step n =
     split (ltb n 10) (λ q. rw q) (λ q. rw (q, digits-enough n (suc (n / 10)) (n / 10) (omega tests) (omega arith)))
@@ -151,16 +151,16 @@ rows-more zero ws = refl
 rows-more (suc i) ws = ap (λ r. segmentAt ws 0 ∷ r) (rows-more i (drop 4 ws)) ∙ rw (row-below ws i)
 
 -- The lines of rows joined are their lines joined.
-lines-append : (xs ys : List Segment) → segLines (xs ++ ys) ≡ segLines xs ++ segLines ys
-lines-append [] ys = refl
-lines-append (x ∷ xs) ys = ap (λ r. segLine x ++ r) (lines-append xs ys) ∙ sym (append-assoc (segLine x) (segLines xs) (segLines ys))
+rows-append : (xs ys : List Segment) → segLines (xs ++ ys) ≡ segLines xs ++ segLines ys
+rows-append [] ys = refl
+rows-append (x ∷ xs) ys = ap (λ r. segLine x ++ r) (rows-append xs ys) ∙ sym (append-assoc (segLine x) (segLines xs) (segLines ys))
 
 -- The lines of one more row are those of the rows before it, and that row's.
 lines-more : (i : ℕ) (ws : List ℕ) → segLines (segmentsIn (i + 1) ws) ≡ segLines (segmentsIn i ws) ++ segLine (segmentAt ws i)
 lines-more i ws =
     rw (add-one i)
     (ap segLines (rows-more i ws)
-    ∙ lines-append (segmentsIn i ws) (segmentAt ws i ∷ [])
+    ∙ rows-append (segmentsIn i ws) (segmentAt ws i ∷ [])
     ∙ ap (λ r. segLines (segmentsIn i ws) ++ r) (append-nil (segLine (segmentAt ws i))))
 
 -- The line of a row that is put after those of the rows before it is one more of them.

@@ -56,3 +56,7 @@ numberedLine (suc n) values = lineOf (ascii "no") (suc n ∷ [])
 -- An answer is written by its number and its value.
 abbrev pub answerLine : Answer → List ℕ
 answerLine a = numberedLine (answerNumbered a .0) (answerNumbered a .1)
+
+-- An answer's line has at most so many bytes: `ok`, a space, ten digits and a newline.
+abbrev pub answerMost : ℕ
+answerMost = 14

@@ -42,7 +42,7 @@ pub record Machine : Type 0 where
 abbrev pub machine : Script → List ℕ → List ℕ → Machine
 machine s ws bs = record { script = s; table = ws; arena = bs }
 
--- Before any make all quotas are 0, and the all-zero record is not valid.
+-- Before any line all quotas are 0, and the record is all zero, which is not valid.
 abbrev pub started : Script
 started = record { plan = record { «granule_quotas» = replicate 8 0; «block_quotas» = replicate 8 0 }; heap = calls.zeroHeap }
 

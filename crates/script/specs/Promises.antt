@@ -7,7 +7,7 @@ use lib.Dec.{leb}
 use lib.ListN.{length, take}
 use Rattle.model.specs.Choose.{choose}
 use Rattle.script.specs.Text.{ended, unended, unlessEmpty, atFront}
-use Rattle.script.specs.Commands.{answerNumbered}
+use Rattle.script.specs.Commands.{answerNumbered, answerMost}
 use Rattle.script.specs.Machine.{Machine, machine, answerTo, numberedTo, after}
 use Rattle.script.specs.Session.{answersTo, afterLines, answersAndClosing, mostHeld, held, piecesWith, takenOf}
 use Rattle.script.specs.declared.Script.{Script}
@@ -34,6 +34,7 @@ module _ (s : Session) (words bytes input room : List ℕ) where
   abbrev pub fedText : List ℕ
   fedText = answersTo (machine (s .script) words bytes) (ended fedPieces)
 
+  -- The answers are put at the front of the buffer, the lines are carried out, and what is begun is held.
   pub record FeedDone (out : Fed) (wordsAfter bytesAfter roomAfter : List ℕ) : Type 0 where
     pub taken : out .taken ≡ takenOf input room
     pub written : out .written ≡ length fedText
@@ -47,11 +48,7 @@ pub record WriteDone (text : List ℕ) (needed : ℕ) (room : List ℕ) (out : W
   pub written : out ≡ choose (leb needed (length room)) (written.Bytes (length text)) written.NoRoom
   pub buffer : roomAfter ≡ choose (leb needed (length room)) (atFront text room) room
 
--- No answer has more bytes.
-abbrev pub answerMost : ℕ
-answerMost = 14
-
--- Nor has what is written at the end: an answer, 512 rows of at most 50 bytes, and the totals, at most 50 bytes too.
+-- What is written at the end has at most so many bytes: an answer, 512 rows of at most 50 bytes, and the totals, at most 50 bytes too.
 abbrev pub endMost : ℕ
 endMost = answerMost + (512 * 50 + 50)
 
@@ -66,6 +63,7 @@ module _ (s : Session) (words bytes room : List ℕ) where
   left =
       choose (leb endMost (length room)) (afterLines (machine (s .script) words bytes) (lastLines s)) (machine (s .script) words bytes)
 
+  -- The text is put into the buffer, and the words and bytes are as the last line leaves them.
   pub record FinishDone (out : Written) (wordsAfter bytesAfter roomAfter : List ℕ) : Type 0 where
     pub put : WriteDone (answersAndClosing (machine (s .script) words bytes) (lastLines s)) endMost room out roomAfter
     pub table : wordsAfter ≡ left .table

@@ -1,10 +1,10 @@
--- A whole script: what is written for an input, and for an input that comes in parts.
+-- A whole script: what is written for an input; and what is held of a line whose newline has not come yet.
 -- Assumes nothing.
 use Prim.Native.Nat.{ℕ, _/_, min}
 use mathlib.Core.List.{List, [], _∷_, _++_}
 use lib.ListN.{length, take}
-use Rattle.script.specs.Text.{prefixed, pieces, ended, unended, unlessEmpty, linesOf}
-use Rattle.script.specs.Commands.{readLine, answerLine}
+use Rattle.script.specs.Text.{prefixed, pieces, linesOf}
+use Rattle.script.specs.Commands.{readLine, answerLine, answerMost}
 use Rattle.script.specs.Machine.{Machine, machine, started, answerTo, after, closing}
 use Rattle.script.specs.declared.Session.{Session}
 
@@ -38,18 +38,11 @@ held s = take (s .count) (s .line)
 abbrev pub piecesWith : List ℕ → List ℕ → List (List ℕ)
 piecesWith p part = prefixed p (pieces 10 part)
 
--- What is written for an input that comes in parts, with p held of the line before the first.
-abbrev pub inParts : Machine → List ℕ → List (List ℕ) → List ℕ
-inParts m p [] = answersAndClosing m (unlessEmpty p)
-inParts m p (part ∷ parts) =
-    answersTo m (ended (piecesWith p part))
-    ++ inParts (afterLines m (ended (piecesWith p part))) (take mostHeld (unended (piecesWith p part))) parts
-
 -- The parts one after the other.
 abbrev pub joined : List (List ℕ) → List ℕ
 joined [] = []
 joined (part ∷ parts) = part ++ joined parts
 
--- Of an input so many bytes are taken at once that all answers have room: each line takes a byte at least, and its answer 14 at most.
+-- Of an input so many bytes are taken at once that all answers have room: each line takes a byte at least, and its answer `answerMost` at most.
 abbrev pub takenOf : List ℕ → List ℕ → ℕ
-takenOf input buffer = min (length input) (length buffer / 14)
+takenOf input buffer = min (length input) (length buffer / answerMost)

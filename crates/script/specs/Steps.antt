@@ -9,7 +9,7 @@ use lib.ListN.{length, take}
 use lib.Seq.{sets}
 use Rattle.model.specs.Choose.{choose}
 use Rattle.script.specs.Text.{ascii, pieces, numberIn, same, atFront}
-use Rattle.script.specs.Commands.{answerLine}
+use Rattle.script.specs.Commands.{answerLine, answerMost}
 use Rattle.script.specs.Machine.{machine, answerTo, after}
 use Rattle.script.specs.Session.{mostHeld}
 use Rattle.script.specs.declared.Script.{Script}
@@ -83,7 +83,7 @@ commandFor w (Two a b) = commandOfTwo w a b
 commandFor w (Three a b c) = commandOfThree w a b c
 commandFor w Unreadable = command.Unreadable
 
--- A part of so many, none if there are fewer.
+-- As many as are wanted, or none if fewer are lent.
 abbrev pub partOf : ℕ → ℕ → ℕ
 partOf n lent = choose (ltb lent n) 0 n
 
@@ -101,4 +101,4 @@ heldWith line held part =
 pub record AnswerDone (s : Script) (words bytes : List ℕ) (k : Command) (buffer : List ℕ) (at : ℕ) (out : Answered) (wordsAfter bytesAfter bufferAfter : List ℕ) : Type 0 where
   pub leaves : machine (out .script) wordsAfter bytesAfter ≡ after (machine s words bytes) k
   pub put : Put (answerLine (answerTo (machine s words bytes) k)) buffer at (out .end) bufferAfter
-  pub most : out .end ≤ at + 14
+  pub most : out .end ≤ at + answerMost

@@ -6,10 +6,10 @@ ghost use Prim.Native.Nat.{ℕ, _+_, _*_, _≤_, min};
 ghost use lib.ListN.{length, take, replicate};
 ghost use Rattle.segments.specs.Rows.{segmentsIn};
 ghost use Rattle.script.specs.Text.{numberIn, same, decimal, spaced, lineOf};
-ghost use Rattle.script.specs.Commands.{readLine, answerLine};
+ghost use Rattle.script.specs.Commands.{readLine, answerLine, answerMost};
 ghost use Rattle.script.specs.Machine.{machine, mostBytes, started, withHeap, placedAnswer, freedAnswer, segLines, closing};
 ghost use Rattle.script.specs.Session.{mostHeld};
-ghost use Rattle.script.specs.Promises.{CommandDone, FeedDone, WriteDone, answerMost, FinishDone};
+ghost use Rattle.script.specs.Promises.{CommandDone, FeedDone, WriteDone, FinishDone};
 ghost use Rattle.script.specs.Steps.{before, following, numberRead, withNumber, numbersRead, wordRead, commandFor, partOf, Put, heldWith, AnswerDone};
 use heap::Heap;
 use heap::is_owner;
@@ -54,7 +54,7 @@ pub enum Answer {
     Unreadable,
 }
 
-// What a script keeps beside the lent table and arena: the quotas for the next make, and the heap's record, all zero before any make.
+// What a script keeps beside the lent table and arena: the quotas for the next make, and the heap's record, all zero until a make is granted.
 pub struct Script {
     pub plan: Plan,
     pub heap: Heap,
@@ -153,7 +153,7 @@ fn is_same(a: &[u8], b: &[u8]) -> bool
     true
 }
 
-// The number in a field: 1 to 10 digits, at most 4,294,967,295. What follows a value that is too large only adds to it.
+// The number in a field: 1 to 10 digits, at most 4,294,967,295. Once a value is too large, further digits only make it larger.
 fn read_number(field: &[u8]) -> Number
     ensures { λ r. ⌜ numberRead r ≡ numberIn (now (field .entry)) ⌝ }
 {
@@ -350,7 +350,7 @@ fn make(script: Script, table: &mut [u32], arena: &mut [u8], bytes: u32, rows: u
 }
 
 // The words of the heap's table: all that are lent if its record says more.
-fn words_in_use(capacity: u32, lent: usize) -> usize
+fn table_words(capacity: u32, lent: usize) -> usize
     ensures { λ r. ⌜ r ≡ min (4 * capacity) lent ⌝ }
 {
     let n = capacity as usize;
@@ -358,7 +358,7 @@ fn words_in_use(capacity: u32, lent: usize) -> usize
 }
 
 // The bytes of the heap's arena: all that are lent if its record says more.
-fn bytes_in_use(granules: u32, lent: usize) -> usize
+fn arena_bytes(granules: u32, lent: usize) -> usize
     ensures { λ r. ⌜ r ≡ min (16 * granules) lent ⌝ }
 {
     let n = granules as usize;
@@ -401,7 +401,7 @@ fn ask(script: Script, table: &mut [u32], owner: u32, size: u32, align: u32) -> 
     ensures { λ r. ⌜ ((bs : List ℕ) → CommandDone script (now (table .entry)) bs (Command.Ask owner size align) r (now (table .exit)) bs) ⌝ }
 {
     let heap = script.heap;
-    let n = words_in_use(heap.capacity, table.len());
+    let n = table_words(heap.capacity, table.len());
     let out = heap::alloc_aligned(heap, &mut table[..n], owner, size, align);
     let placed = out.placed;
     let left = out.heap;
@@ -416,8 +416,8 @@ fn back(script: Script, table: &mut [u32], arena: &mut [u8], owner: u32, offset:
     ensures { λ r. ⌜ CommandDone script (now (table .entry)) (now (arena .entry)) (Command.Back owner offset) r (now (table .exit)) (now (arena .exit)) ⌝ }
 {
     let heap = script.heap;
-    let n = words_in_use(heap.capacity, table.len());
-    let k = bytes_in_use(heap.granules, arena.len());
+    let n = table_words(heap.capacity, table.len());
+    let k = arena_bytes(heap.granules, arena.len());
     let out = heap::free(heap, &mut table[..n], &mut arena[..k], owner, offset);
     let freed = out.freed;
     let left = out.heap;
@@ -558,7 +558,7 @@ fn put_closing(out: &mut [u8], at: usize, script: Script, table: &[u32]) -> usiz
     ensures { λ r. ⌜ ((bs : List ℕ) → Put (closing (machine script (now (table .entry)) bs)) (now (out .entry)) at r (now (out .exit))) × (r ≤ at + 25650) ⌝ }
 {
     let heap = script.heap;
-    let n = words_in_use(heap.capacity, table.len());
+    let n = table_words(heap.capacity, table.len());
     let totals = heap::totals(heap, &table[..n]);
     match totals {
         Totals::Refused(_) => at,
@@ -699,8 +699,8 @@ pub fn feed(
     }
 }
 
-// The end of the input: answers what is held, a line without its newline, and puts the rows and the totals. A buffer of fewer than 25,664 bytes may be too
-// short for them: then nothing is done.
+// The end of the input: answers what is held, a line without its newline, and puts the rows and the totals. With a buffer of fewer
+// than 25,664 bytes, the most that these can need, nothing is done.
 pub fn finish(session: Session, table: &mut [u32], arena: &mut [u8], out: &mut [u8]) -> Written
     ensures { λ r. ⌜ FinishDone session (now (table .entry)) (now (arena .entry)) (now (out .entry)) r (now (table .exit)) (now (arena .exit)) (now (out .exit)) ⌝ }
 {

@@ -8,10 +8,10 @@ use Rattle.heapscript.proofs.answer_input.Statement.{statement}
 use Rattle.heapscript.proofs.answer_input.Tie as tie
 
 abbrev Inv-loop : tie.InvT-loop
-Inv-loop table₀ arena₀ turn₀ parts₀ table arena turn parts = (length table ≡ length table₀) × (length arena ≡ length arena₀)
+Inv-loop table₀ arena₀ progress₀ parts₀ table arena progress parts = (length table ≡ length table₀) × (length arena ≡ length arena₀)
 
 abbrev μ-loop : tie.MeasureT-loop
-μ-loop table₀ arena₀ turn₀ parts₀ table arena turn parts = parts
+μ-loop table₀ arena₀ progress₀ parts₀ table arena progress parts = parts
 
 loop-holds : tie.Need-loop-holds Inv-loop μ-loop
 loop-holds c = (refl, refl)

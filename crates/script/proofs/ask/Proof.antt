@@ -7,8 +7,8 @@ use borrow.Author.Needs.{needs}
 use Rattle.script.proofs.ask.Statement.{statement}
 use Rattle.script.proofs.ask.Tie as tie
 
-words-in-use-requires : tie.Need-words-in-use-requires
-words-in-use-requires c κs = search needs
+table-words-requires : tie.Need-table-words-requires
+table-words-requires c κs = search needs
 
 slice-relend-prefix-alloc-aligned : tie.Need-slice-relend-prefix-alloc-aligned
 slice-relend-prefix-alloc-aligned c = search needs
@@ -31,13 +31,13 @@ same-length c = search needs
 returns : tie.Need-returns
 returns c bs =
     let d = c .before .before .before .before .before in
-    ask-done _ _ bs _ _ _ _ (d .before .before .words-in-use .ensures) _ _ (d .alloc-aligned .ensures) _ (c .before .placed-answer .ensures) (c .with-heap .ensures)
+    ask-done _ _ bs _ _ _ _ (d .before .before .table-words .ensures) _ _ (d .alloc-aligned .ensures) _ (c .before .placed-answer .ensures) (c .with-heap .ensures)
 
 pub ask-spec : {M : Type 1} → statement M
 ask-spec =
     tie.close
     (tie.spec
-    words-in-use-requires
+    table-words-requires
     slice-relend-prefix-alloc-aligned
     slice-aggregate-alloc-aligned
     alloc-aligned-requires

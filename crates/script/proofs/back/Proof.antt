@@ -7,11 +7,11 @@ use borrow.Author.Needs.{needs}
 use Rattle.script.proofs.back.Statement.{statement}
 use Rattle.script.proofs.back.Tie as tie
 
-words-in-use-requires : tie.Need-words-in-use-requires
-words-in-use-requires c κs = search needs
+table-words-requires : tie.Need-table-words-requires
+table-words-requires c κs = search needs
 
-bytes-in-use-requires : tie.Need-bytes-in-use-requires
-bytes-in-use-requires c κs = search needs
+arena-bytes-requires : tie.Need-arena-bytes-requires
+arena-bytes-requires c κs = search needs
 
 slice-relend-prefix-free : tie.Need-slice-relend-prefix-free
 slice-relend-prefix-free c = search needs
@@ -44,14 +44,14 @@ returns : tie.Need-returns
 returns c =
     let d = c .before .before .before .before .before .before .before in
     let k = d .before .before .before in
-    back-done _ _ _ _ _ _ _ (k .before .words-in-use .ensures) (k .bytes-in-use .ensures) _ _ _ (d .free .ensures) _ (c .before .freed-answer .ensures) (c .with-heap .ensures)
+    back-done _ _ _ _ _ _ _ (k .before .table-words .ensures) (k .arena-bytes .ensures) _ _ _ (d .free .ensures) _ (c .before .freed-answer .ensures) (c .with-heap .ensures)
 
 pub back-spec : {M : Type 1} → statement M
 back-spec =
     tie.close
     (tie.spec
-    words-in-use-requires
-    bytes-in-use-requires
+    table-words-requires
+    arena-bytes-requires
     slice-relend-prefix-free
     slice-aggregate-free
     slice-relend-prefix-free-2

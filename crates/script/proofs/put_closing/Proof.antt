@@ -11,11 +11,11 @@ use Rattle.script.proofs.Writing.{four-most, closing-none, rows-lent, c
 use Rattle.script.proofs.put_closing.Statement.{statement}
 use Rattle.script.proofs.put_closing.Tie as tie
 
-words-in-use-requires : tie.Need-words-in-use-requires
-words-in-use-requires c κs = search needs
+table-words-requires : tie.Need-table-words-requires
+table-words-requires c κs = search needs
 
 slice-aggregate-totals : tie.Need-slice-aggregate-totals
-slice-aggregate-totals c = length-lent _ _ _ (c .before .words-in-use .ensures)
+slice-aggregate-totals c = length-lent _ _ _ (c .before .table-words .ensures)
 
 totals-requires : tie.Need-totals-requires
 totals-requires c κs = search needs
@@ -27,15 +27,15 @@ enum-known-totals : tie.Need-enum-known-totals
 enum-known-totals c = search needs
 
 slice-aggregate-put-rows : tie.Need-slice-aggregate-put-rows
-slice-aggregate-put-rows c = length-lent _ _ _ (c .before .before .before .before .before .before .before .words-in-use .ensures)
+slice-aggregate-put-rows c = length-lent _ _ _ (c .before .before .before .before .before .before .before .table-words .ensures)
 
 cast-put-rows : tie.Need-cast-put-rows
 cast-put-rows c = search needs
 
 -- The rows are few, and all lent.
 room : (c : tie.After-totals2) → let w = c .before .before .before .before in
-    let a = w .before .before .before .before .args in (a .script .heap .rows ≤ 512) × (4 * a .script .heap .rows ≤ length (take (w .words-in-use .result) (a .table .now)))
-room c = rows-lent (c .before .before .before .before .before .before .before .before .args .script) _ _ (c .before .before .before .before .words-in-use .ensures) _ (c .before .before .totals .ensures) _ _ _ _ (c .totals2 .given .1)
+    let a = w .before .before .before .before .args in (a .script .heap .rows ≤ 512) × (4 * a .script .heap .rows ≤ length (take (w .table-words .result) (a .table .now)))
+room c = rows-lent (c .before .before .before .before .before .before .before .before .args .script) _ _ (c .before .before .before .before .table-words .ensures) _ (c .before .before .totals .ensures) _ _ _ _ (c .totals2 .given .1)
 
 put-rows-requires : tie.Need-put-rows-requires
 put-rows-requires c κs = let r = room (c .before .before .before .before) in (omega arith, r .1)
@@ -64,7 +64,7 @@ put-four-requires c κs = let r = room (c .before .before .before .before .befor
 
 returns : tie.Need-returns
 returns c =
-    (closing-none (c .before .before .before .before .before .before .before .before .args .script) _ _ (c .before .before .before .before .words-in-use .ensures) _ (c .before .before .totals .ensures) _ (c .enum-told .given .1), omega arith)
+    (closing-none (c .before .before .before .before .before .before .before .before .args .script) _ _ (c .before .before .before .before .table-words .ensures) _ (c .before .before .totals .ensures) _ (c .enum-told .given .1), omega arith)
 
 same-length : tie.Need-same-length
 same-length c = search needs
@@ -76,7 +76,7 @@ returns-2 c =
     let p = c .before .before .before .before .before .before .before .put-rows .ensures in
     let f = c .before .before .put-four .ensures in
     let r = room d in (
-      closing-rows (d .before .before .before .before .before .before .before .before .args .script) _ _ (d .before .before .before .before .words-in-use .ensures) _ (d .before .before .totals .ensures) _ _ _ _ (d .totals2 .given .1) (p .0) f,
+      closing-rows (d .before .before .before .before .before .before .before .before .args .script) _ _ (d .before .before .before .before .table-words .ensures) _ (d .before .before .totals .ensures) _ _ _ _ (d .totals2 .given .1) (p .0) f,
       omega (arith, r .0, p .1, f .end, most k),
     )
 
@@ -84,7 +84,7 @@ pub put-closing-spec : {M : Type 1} → statement M
 put-closing-spec =
     tie.close
     (tie.spec
-    words-in-use-requires
+    table-words-requires
     slice-aggregate-totals
     totals-requires
     enum-told
