@@ -118,7 +118,7 @@ impl Heap {
     /// Answers the bytes that became free.
     pub fn free(&mut self, owner: u64, offset: u64) -> Answer {
         self.quota(owner)?;
-        let block = self.block_at(offset).ok_or(Refusal::NotABlock)?;
+        let block = self.block_at(offset)?;
         if block.owner != owner {
             return Err(Refusal::OtherOwner);
         }
@@ -170,9 +170,26 @@ impl Heap {
         self.live.values().map(|block| block.length).sum()
     }
 
-    fn block_at(&self, offset: u64) -> Option<Row> {
+    /// The live block whose first byte is at `offset`.
+    fn block_at(&self, offset: u64) -> Result<Row, Refusal> {
+        if offset >= self.arena * GRANULE {
+            return Err(Refusal::PastEnd);
+        }
+        if !offset.is_multiple_of(GRANULE) {
+            return Err(Refusal::NotAligned);
+        }
+        let granule = offset / GRANULE;
+        let block = self.block_with(granule).ok_or(Refusal::FreeMemory)?;
+        if block.start != granule {
+            return Err(Refusal::InsideBlock);
+        }
+        Ok(block)
+    }
+
+    fn block_with(&self, granule: u64) -> Option<Row> {
         let mut blocks = self.live.values();
-        blocks.find(|b| b.start * GRANULE == offset).copied()
+        let block = blocks.find(|b| (b.start..b.end()).contains(&granule));
+        block.copied()
     }
 
     /// Tries every start from 0 up.

@@ -11,18 +11,21 @@ pub enum Refusal {
     GranuleQuota = 6,
     NoStart = 7,
     NoRow = 8,
-    NotABlock = 9,
+    InsideBlock = 9,
     OtherOwner = 10,
     Arena = 11,
     Table = 12,
     QuotaRange = 13,
     Unreadable = 14,
+    PastEnd = 15,
+    NotAligned = 16,
+    FreeMemory = 17,
 }
 
 impl Refusal {
     /// Every refusal that a run of many scripts has to meet. A number that
     /// joins the list above joins this one.
-    pub const EXPECTED: [Refusal; 14] = [
+    pub const EXPECTED: [Refusal; 17] = [
         Refusal::InvalidHeap,
         Refusal::Owner,
         Refusal::SizeZero,
@@ -31,12 +34,15 @@ impl Refusal {
         Refusal::GranuleQuota,
         Refusal::NoStart,
         Refusal::NoRow,
-        Refusal::NotABlock,
+        Refusal::InsideBlock,
         Refusal::OtherOwner,
         Refusal::Arena,
         Refusal::Table,
         Refusal::QuotaRange,
         Refusal::Unreadable,
+        Refusal::PastEnd,
+        Refusal::NotAligned,
+        Refusal::FreeMemory,
     ];
 
     pub fn number(self) -> u8 {

@@ -133,8 +133,8 @@ fn a_refused_make_keeps_the_heap() {
 #[test]
 fn before_any_make_there_is_no_heap() {
     expect(
-        "ask 9 0 3/back 0 1/make 8 1/ask 1 1 16/back 1 0",
-        "no 1/no 1/no 11/no 1/no 1",
+        "ask 9 0 3/back 0 1/make 8 1/ask 1 1 16/back 1 0/back 1 1/back 1 4294967280",
+        "no 1/no 1/no 11/no 1/no 1/no 1/no 1",
     );
 }
 
@@ -224,12 +224,35 @@ fn after_8_no_later_start_is_tried() {
     );
 }
 
+/// The place is free, another owner's, and the same owner's again.
 #[test]
 fn a_second_free() {
     expect_on(
         "make 16 1",
         "ask 1 1 16/back 1 0/back 1 0/ask 2 1 16/back 1 0/back 2 0/ask 1 2 16/back 1 0",
-        "ok 0/ok 16/no 9/ok 0/no 10/ok 16/ok 0/ok 16/seg 0 16 0 0/sum 0 16 16 16",
+        "ok 0/ok 16/no 17/ok 0/no 10/ok 16/ok 0/ok 16/seg 0 16 0 0/sum 0 16 16 16",
+    );
+}
+
+/// The place is in the middle of a hole, then in a block, and free again.
+#[test]
+fn a_second_free_where_a_block_was_lent_over() {
+    expect_on(
+        "make 64 8",
+        "ask 1 16 16/ask 1 16 16/back 1 16/back 1 0/back 1 16\
+         /ask 2 32 16/back 1 16/back 2 16/back 1 0/back 2 0/back 1 16",
+        "ok 0/ok 16/ok 16/ok 16/no 17\
+         /ok 0/no 9/no 9/no 10/ok 32/no 17/seg 0 64 0 0/sum 0 64 32 64",
+    );
+}
+
+/// Only what is live now counts, not what a heap before it had lent.
+#[test]
+fn a_free_after_another_make() {
+    expect_on(
+        "make 64 8",
+        "ask 1 16 16/ask 1 16 16/make 32 8/back 1 0/back 1 16/back 1 32",
+        "ok 0/ok 16/ok 32/no 17/no 17/no 15/seg 0 32 0 0/sum 0 32 0 32",
     );
 }
 
@@ -238,8 +261,101 @@ fn only_the_first_byte_frees() {
     expect_on(
         "make 64 4",
         "ask 1 32 32/back 1 1/back 1 15/back 1 16/back 1 32/back 1 4294967295/back 1 65536",
-        "ok 0/no 9/no 9/no 9/no 9/no 9/no 9/seg 0 32 1 32/seg 32 32 0 0/sum 32 32 32 32",
+        "ok 0/no 16/no 16/no 9/no 17/no 15/no 15/seg 0 32 1 32/seg 32 32 0 0/sum 32 32 32 32",
     );
+}
+
+/// A heap of 128 bytes: 0 to 31 and 80 to 95 are owner 1's, 32 to 63 owner 2's,
+/// the rest is free.
+const LENT: [&str; 3] = [
+    "ask 1 32 16/ask 2 32 16/ask 1 16 16/ask 1 16 16/back 1 64",
+    "ok 0/ok 32/ok 64/ok 80/ok 16",
+    "seg 0 32 1 32/seg 32 32 2 32/seg 64 16 0 0/seg 80 16 1 16/seg 96 32 0 0/sum 80 48 96 32",
+];
+
+/// Each owner is refused each offset of that heap, and the heap stays.
+fn expect_refused(owners: &[u32], offsets: &[u32], number: u32) {
+    let [opening, opened, closing] = LENT;
+    for owner in owners {
+        for offset in offsets {
+            expect_on(
+                "make 128 8",
+                &format!("{opening}/back {owner} {offset}"),
+                &format!("{opened}/no {number}/{closing}"),
+            );
+        }
+    }
+}
+
+#[test]
+fn a_free_from_the_arenas_end_on() {
+    expect_refused(&[1, 2, 8], &[112], 17);
+    expect_refused(&[1, 2, 8], &[113, 127], 16);
+    expect_refused(&[1, 2, 8], &[128, 129, 143, 144, 145], 15);
+    // In fewer bits these are offsets of live blocks.
+    expect_refused(&[1, 2], &[65_536, 65_568, 2_147_483_648, 2_147_483_680], 15);
+    expect_refused(&[1, 2], &[4_294_967_280, 4_294_967_295], 15);
+}
+
+#[test]
+fn the_end_of_the_least_the_largest_and_a_full_arena() {
+    expect_on(
+        "make 16 1",
+        "back 1 0/back 1 15/back 1 16/back 1 17",
+        "no 17/no 16/no 15/no 15/seg 0 16 0 0/sum 0 16 0 16",
+    );
+    expect_on(
+        "make 65536 1",
+        "back 1 65520/back 1 65535/back 1 65536/back 1 65537",
+        "no 17/no 16/no 15/no 15/seg 0 65536 0 0/sum 0 65536 0 65536",
+    );
+    expect_on(
+        "make 64 1",
+        "ask 1 64 16/back 1 16/back 1 32/back 1 48/back 1 63/back 1 64/back 1 65/back 1 0",
+        "ok 0/no 9/no 9/no 9/no 16/no 15/no 15/ok 64/seg 0 64 0 0/sum 0 64 64 64",
+    );
+}
+
+#[test]
+fn a_free_that_is_no_multiple_of_16() {
+    let in_blocks = [1, 8, 15, 17, 24, 31, 33, 47, 49, 63, 81, 95];
+    expect_refused(&[1, 2, 8], &in_blocks, 16);
+    let in_holes = [65, 72, 79, 97, 111];
+    expect_refused(&[1, 2, 8], &in_holes, 16);
+}
+
+#[test]
+fn a_free_in_free_memory() {
+    expect_refused(&[1, 2, 8], &[64, 96, 112], 17);
+}
+
+#[test]
+fn a_free_after_a_blocks_first_granule() {
+    expect_refused(&[1, 2, 8], &[16, 48], 9);
+}
+
+#[test]
+fn a_free_of_another_owners_block() {
+    expect_refused(&[2, 8], &[0, 80], 10);
+    expect_refused(&[1, 8], &[32], 10);
+}
+
+/// The granule after a block is the first of the next one.
+#[test]
+fn a_free_by_the_owner() {
+    let [opening, opened, _] = LENT;
+    expect_on(
+        "make 128 8",
+        &format!("{opening}/back 2 32/back 1 0/back 1 80"),
+        &format!("{opened}/ok 32/ok 32/ok 16/seg 0 128 0 0/sum 0 128 96 128"),
+    );
+}
+
+/// A wrong owner number is told first, whatever the offset.
+#[test]
+fn a_free_by_no_owner() {
+    let offsets = [0, 1, 16, 17, 32, 64, 65, 127, 128, 129, 4_294_967_295];
+    expect_refused(&[0, 9, 4_294_967_295], &offsets, 2);
 }
 
 #[test]
@@ -258,7 +374,9 @@ fn the_order_of_refusals() {
     refused("ask 1 48 4096", "no 8");
     refused("back 0 1", "no 2");
     refused("back 9 0", "no 2");
-    refused("back 1 0", "no 9");
+    refused("back 1 65", "no 15");
+    refused("back 1 63", "no 16");
+    refused("back 1 0", "no 17");
 }
 
 #[test]

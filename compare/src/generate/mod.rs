@@ -1,6 +1,7 @@
 //! Random scripts. Script number i of a seed is made from these two alone.
 
 mod damage;
+mod frees;
 mod numbers;
 mod plan;
 mod writer;

@@ -2,6 +2,7 @@
 //! can aim at blocks, holes and quotas as they stand.
 
 use super::damage;
+use super::frees::aimed_free;
 use super::numbers;
 use super::plan::{Plan, QuotaStyle};
 use crate::heap::{Heap, Row, GRANULE, MOST_SCRIPT_BYTES};
@@ -12,8 +13,6 @@ use crate::text::{self, LONGEST_LINE};
 
 /// Programs are likely to read their input in blocks of this many bytes.
 const INPUT_BLOCK: usize = 4_096;
-/// Frees remembered for a second try.
-const REMEMBERED: usize = 8;
 
 pub struct Writer<'a> {
     random: &'a mut Random,
@@ -241,34 +240,5 @@ fn aimed_granules(random: &mut Random, heap: &Heap, owner: u64) -> u64 {
         7..=8 => left,
         9 => left + 1,
         _ => random.range(1, heap.arena()),
-    }
-}
-
-/// Owner and offset: mostly a live block's, else near it.
-fn aimed_free(random: &mut Random, heap: &Heap, freed: &mut Vec<Row>) -> (u64, u64) {
-    let live: Vec<Row> = heap.live().copied().collect();
-    if live.is_empty() {
-        return (random.range(1, 8), GRANULE * random.below(heap.arena()));
-    }
-    let block = random.pick(&live);
-    let offset = block.start * GRANULE;
-    match random.below(24) {
-        0..=1 => (random.range(1, 8), offset),
-        2 => (
-            block.owner,
-            offset + random.range(1, block.length * GRANULE),
-        ),
-        3 => (block.owner, block.end() * GRANULE),
-        4 => (block.owner, GRANULE * random.below(heap.arena())),
-        5 => (block.owner, offset + (1 << random.range(12, 31))),
-        6..=7 if !freed.is_empty() => {
-            let again = random.pick(freed);
-            (again.owner, again.start * GRANULE)
-        }
-        _ => {
-            freed.truncate(REMEMBERED - 1);
-            freed.insert(0, block);
-            (block.owner, offset)
-        }
     }
 }

@@ -14,6 +14,8 @@ pub struct Heap {
     arena: u32,
     used: u32,
     peak: u32,
+    /// Starts of blocks that were live once.
+    freed: Vec<u32>,
 }
 
 impl Heap {
@@ -26,6 +28,7 @@ impl Heap {
             arena,
             used: 0,
             peak: 0,
+            freed: Vec::new(),
         }
     }
 
@@ -155,28 +158,105 @@ impl Heap {
     }
 
     pub fn free(&mut self, owner: u32, offset: u32) -> Answer {
-        if owner == 0 || owner > 8 {
-            return Err(2);
-        }
         let offset = match self.fault {
-            Fault::FreesFromInside => offset / 16 * 16,
+            Fault::RoundsOffsetDown => offset / 16 * 16,
+            Fault::OffsetInSixteenBits => offset % (1 << 16),
             _ => offset,
         };
-        let begins = |row: &Row| row[2] > 0 && row[0] * 16 == offset;
-        let at = self.rows.iter().position(begins).ok_or(9)?;
-        let [_, length, holder, _] = self.rows[at];
-        if holder != owner {
-            return Err(match self.fault {
-                Fault::OtherOwnerUnknown => 9,
-                _ => 10,
-            });
+        let mut order = self.order_of_free().iter().copied();
+        if let Some(number) = order.find(|&number| self.refuses_free(number, owner, offset)) {
+            return Err(self.told(number));
         }
+        let at = self.row_with(offset / 16);
+        let [start, length, ..] = self.rows[at];
         self.release(at);
+        self.freed.push(start);
         self.used -= length;
         if self.fault == Fault::PeakFalls {
             self.peak = self.used;
         }
         Ok(length * 16)
+    }
+
+    /// The numbers of a free in the order in which they are looked at.
+    fn order_of_free(&self) -> &'static [u8] {
+        match self.fault {
+            Fault::OffsetBeforeOwner => &[15, 16, 17, 9, 2, 10],
+            Fault::AlignmentBeforeEnd => &[2, 16, 15, 17, 9, 10],
+            Fault::FreeBeforeAlignment => &[2, 15, 17, 16, 9, 10],
+            Fault::InsideBeforeAlignment => &[2, 15, 9, 16, 17, 10],
+            Fault::HolderBeforeAlignment => &[2, 15, 10, 16, 17, 9],
+            Fault::HolderBeforeInside => &[2, 15, 16, 17, 10, 9],
+            Fault::FreesFromInside => &[2, 15, 16, 17, 10],
+            _ => &[2, 15, 16, 17, 9, 10],
+        }
+    }
+
+    fn refuses_free(&self, number: u8, owner: u32, offset: u32) -> bool {
+        let granule = offset / 16;
+        let row = self.rows.get(self.row_with(granule));
+        // Past the end is as free as a hole.
+        let row = row.copied().unwrap_or_default();
+        match number {
+            2 => owner == 0 || owner > 8,
+            15 => self.past_end(offset),
+            16 => !self.aligned(offset),
+            17 => self.in_free_memory(granule, row),
+            9 => row[2] > 0 && self.after_first(granule, row[0]),
+            _ => row[2] > 0 && row[2] != owner,
+        }
+    }
+
+    /// The rows cover the arena in address order, so the first that ends after
+    /// a granule has it.
+    fn row_with(&self, granule: u32) -> usize {
+        let more = |row: &Row| match self.fault {
+            Fault::NextGranuleInside => u32::from(row[2] > 0),
+            _ => 0,
+        };
+        self.rows
+            .partition_point(|row| row[0] + row[1] + more(row) <= granule)
+    }
+
+    fn past_end(&self, offset: u32) -> bool {
+        let end = self.arena * 16;
+        match self.fault {
+            Fault::PastEndByMoreThan => offset > end,
+            Fault::LastGranulePastEnd => offset >= end - 16,
+            _ => offset >= end,
+        }
+    }
+
+    fn aligned(&self, offset: u32) -> bool {
+        offset.is_multiple_of(match self.fault {
+            Fault::AlignedToEight => 8,
+            _ => 16,
+        })
+    }
+
+    fn in_free_memory(&self, granule: u32, [start, length, holder, _]: Row) -> bool {
+        let seems_free = match self.fault {
+            Fault::LastGranuleFree => length > 1 && granule + 1 == start + length,
+            Fault::FreedStaysFree => granule > start && self.freed.contains(&granule),
+            _ => false,
+        };
+        holder == 0 || seems_free
+    }
+
+    fn after_first(&self, granule: u32, start: u32) -> bool {
+        match self.fault {
+            Fault::FirstGranuleInside => granule >= start,
+            Fault::SecondGranuleFrees => granule > start + 1,
+            _ => granule > start,
+        }
+    }
+
+    fn told(&self, number: u8) -> u8 {
+        match (self.fault, number) {
+            (Fault::OtherOwnerUnknown, 10) => 9,
+            (Fault::BadOffsetsAlike, 15..=17) => 9,
+            _ => number,
+        }
     }
 
     fn release(&mut self, at: usize) {

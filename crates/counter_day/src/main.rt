@@ -167,7 +167,7 @@ fn noon(heap: Heap, table: &mut [u32; 68], arena: &mut [u8; 512]) -> Heap {
     h
 }
 
-// The block quota, an alignment with no place left, a hole too short, and an offset inside a block.
+// The block quota, an alignment with no place left, a hole too short, and an offset that is no multiple of 16.
 fn evening(heap: Heap, table: &mut [u32; 68], arena: &mut [u8; 512]) -> Heap {
     let mut h = heap;
     h = alloc(h, table, 1, 33);
@@ -181,10 +181,30 @@ fn evening(heap: Heap, table: &mut [u32; 68], arena: &mut [u8; 512]) -> Heap {
     h
 }
 
-// What the three tasks hold adds up to what is used.
-fn closing(heap: Heap, table: &[u32; 68]) {
+// Bad returns, each with its own number: the arena's end and its last granule, a hole, and a block after its first granule.
+fn bad_returns(heap: Heap, table: &mut [u32; 68], arena: &mut [u8; 512]) -> Heap {
+    let mut h = heap;
+    h = free(h, table, arena, 3, 512);
+    h = free(h, table, arena, 3, 511);
+    h = free(h, table, arena, 3, 496);
+    h = free(h, table, arena, 1, 49);
+    h = free(h, table, arena, 1, 48);
+    h = free(h, table, arena, 1, 176);
+    h
+}
+
+// The same for enquiries: one past the end, a block's second byte, a hole, a block's second granule, and its first for its owner and for another.
+fn sizes(heap: Heap, table: &[u32; 68]) {
+    block_size(heap, table, 1, 513);
+    block_size(heap, table, 1, 161);
+    block_size(heap, table, 1, 192);
+    block_size(heap, table, 1, 176);
     block_size(heap, table, 1, 160);
     block_size(heap, table, 3, 160);
+}
+
+// What the three tasks hold adds up to what is used.
+fn closing(heap: Heap, table: &[u32; 68]) {
     holding(heap, table, 1);
     holding(heap, table, 2);
     holding(heap, table, 3);
@@ -198,5 +218,7 @@ fn main() {
     heap = morning(heap, &mut table, &mut arena);
     heap = noon(heap, &mut table, &mut arena);
     heap = evening(heap, &mut table, &mut arena);
+    heap = bad_returns(heap, &mut table, &mut arena);
+    sizes(heap, &table);
     closing(heap, &table);
 }

@@ -4,31 +4,33 @@ use mathlib.Core.Path.{_≡_, sym, ap, _∙_, subst}
 use mathlib.Core.Bool.{Bool, true, false}
 use mathlib.Core.List.{List}
 use mathlib.Core.Option.{none, some}
-use Prim.Native.Nat.{ℕ, _+_, _*_, _-_, _/_, _≤_, _<_}
+use Prim.Native.Nat.{ℕ, _+_, _*_, _-_, _/_, _%_, _≤_, _<_}
 use native.Mathlib.Omega.{arith}
-use lib.Dec.{eqb}
+use lib.Dec.{leb, ltb, eqb}
 use lib.ListN.{length, replicate}
-use borrow.Author.Tests.{eqb-true, eq-eqb, ne-eqb}
+use borrow.Author.Tests.{not-false, eqb-true, eq-eqb}
 use Rattle.model.specs.Choose.{choose}
 use Rattle.model.specs.Quantities.{isOwner}
-use Rattle.model.specs.Allocation.{granulesOf, offset, bytes, blockAt, without}
+use Rattle.model.specs.Allocation.{granulesOf, offset, bytes, blockAt, hasGranule, blockOver, without}
 use Rattle.model.specs.Arena.{written}
-use Rattle.model.specs.SegmentMap.{isLive, mapOf, rowsOf}
+use Rattle.model.specs.SegmentMap.{isFree, isLive, mapOf, rowsOf}
 use Rattle.model.specs.Orders.{Order, firstReason, freeOrder, blockSizeOrder, blockOrder}
 use Rattle.model.specs.Rules.{releasing}
-use Rattle.model.proofs.Choosing.{first-some, first-picked}
+use Rattle.model.proofs.Choosing.{split, tests, first-some, first-picked}
+use Rattle.model.proofs.Offsets.{granule-in, over-at}
+use Rattle.model.proofs.Refusing.{NoReason, no-reason}
 use Rattle.model.proofs.Released.{Released, released as not-refused}
 use Rattle.model.proofs.Kept.{Kept, keep-others, returned-free}
-use Rattle.model.proofs.Laws.{block-inside}
+use Rattle.model.proofs.Laws.{free-asks, size-asks, block-inside}
 use Rattle.segments.specs.Rows.{segmentAt, segmentsIn, blocksIn, Rewritten}
 use Rattle.segments.specs.Search.{RowOf}
 use Rattle.segments.specs.Changes.{released}
-use Rattle.segments.proofs.Finding.{block-row}
+use Rattle.segments.proofs.Finding.{over-row}
 use Rattle.segments.proofs.Releasing.{release-rows}
 use Rattle.heap.specs.Stored.{Stored, handed, store, configOf, stateIn}
 use Rattle.heap.specs.Valid.{valid}
 use Rattle.heap.specs.Promises.{FreeDone, BlockSizeDone}
-use Rattle.heap.specs.Steps.{startsAt, LookedUp, updatedOf}
+use Rattle.heap.specs.Steps.{offsetOrder, LookedUp, updatedOf}
 use Rattle.heap.proofs.Conditions.{valid-conditions}
 use Rattle.heap.proofs.ValidStored.{valid-map, valid-kept}
 use Rattle.heap.proofs.Changing.{bounds, stored-changed}
@@ -64,26 +66,47 @@ module _ (r : Heap) (ws : List ℕ) (o x : ℕ) where
   blocks = blocksIn (r .rows) ws
 
   abbrev lookOrder : Order Refusal
-  lookOrder = blockOrder (stateIn r ws) o x
+  lookOrder = blockOrder (configOf r) (stateIn r ws) o x
 
   abbrev sizeOrder : Order Refusal
-  sizeOrder = blockSizeOrder (valid r ws) (stateIn r ws) o x
+  sizeOrder = blockSizeOrder (valid r ws) (configOf r) (stateIn r ws) o x
 
-  -- In a valid heap the row with the granule of byte x, read as s, says which block is at x.
+  -- In a valid heap the row with the granule of byte x, read as s, says what an owner's offset gets.
   module _ (v : valid r ws ≡ true) (known : isOwner o ≡ true) (i : ℕ) (w : RowOf (r .rows) (x / 16) ws i) (s : Segment) (e : s ≡ segmentAt ws i) where
-    at : blockAt x blocks ≡ choose (startsAt s x) (some s) none
-    at = block-row (configOf r) (r .rows) ws x i (valid-map r ws v) w ∙ ap (λ (k : Segment). choose (startsAt k x) (some k) none) (sym e)
+    -- in the arena, the block over the granule is s if that is live, and there is none else
+    over : leb (16 * r .granules) x ≡ false → blockOver (x / 16) blocks ≡ choose (isLive s) (some s) none
+    over p =
+        over-row (configOf r) (r .rows) ws (x / 16) i (valid-map r ws v) (omega tests) w
+        ∙ ap (λ (k : Segment). choose (isLive k) (some k) none) (sym e)
 
-    pub no-block : startsAt s x ≡ false → firstReason lookOrder ≡ some refusal.NotABlock
-    no-block q = let n : blockAt x blocks ≡ none = rw q at at in rw (known, n)
+    -- past 15, 16, 17 and 9 the block at x is s
+    begun : leb (16 * r .granules) x ≡ false → eqb (x % 16) 0 ≡ true → isFree s ≡ false → ltb (s .start) (x / 16) ≡ false → blockAt x blocks ≡ some s
+    begun p a f l =
+        let b : blockOver (x / 16) blocks ≡ some s = rw f at (over p) in
+        let g = granule-in (x / 16) s (first-some (hasGranule (x / 16)) blocks s b) in
+        over-at (configOf r) x blocks s (valid-kept r ws v .ordered) b (omega tests)
 
-    pub other-block : startsAt s x ≡ true → ¬ (s .owner ≡ o) → firstReason lookOrder ≡ some refusal.OtherOwner
-    other-block q n = let b : blockAt x blocks ≡ some s = rw q at at in rw (known, b, ne-eqb (s .owner) o n)
+    asked : firstReason lookOrder ≡ firstReason (offsetOrder s (16 * r .granules) o x)
+    asked =
+        rw known
+        (split (leb (16 * r .granules) x)
+        (λ p. rw p)
+        (λ p. rw p
+        (split (eqb (x % 16) 0)
+        (λ a. rw a
+        (split (isFree s)
+        (λ f. let b : blockOver (x / 16) blocks ≡ none = rw f at (over p) in rw (f, b))
+        (λ f. let b : blockOver (x / 16) blocks ≡ some s = rw f at (over p) in
+        rw (f, b) (split (ltb (s .start) (x / 16)) (λ l. rw l) (λ l. rw (l, begun p a f l))))))
+        (λ a. rw a))))
 
-    pub own-block : startsAt s x ≡ true → s .owner ≡ o → LookedUp lookOrder r ws x (lookup.Row i)
-    own-block q n =
-        let b : blockAt x blocks ≡ some s = rw q at at in
-        (rw (known, b, eq-eqb (s .owner) o n), record { inUse = w .inUse; block = b ∙ ap some e })
+    pub offset-refused : (why : Refusal) → firstReason (offsetOrder s (16 * r .granules) o x) ≡ some why → firstReason lookOrder ≡ some why
+    offset-refused why q = asked ∙ q
+
+    pub offset-passed : firstReason (offsetOrder s (16 * r .granules) o x) ≡ none → LookedUp lookOrder r ws x (lookup.Row i)
+    offset-passed q =
+        let n : NoReason (offsetOrder s (16 * r .granules) o x) = no-reason (offsetOrder s (16 * r .granules) o x) q in
+        (asked ∙ q, record { inUse = w .inUse; block = begun (n .0) (not-false (eqb (x % 16) 0) (n .1 .0)) (n .1 .1 .0) (n .1 .1 .1 .0) ∙ ap some e })
 
   -- The enquiry for a block's size: refused, and of what was found in a valid heap.
   pub size-refused : (why : Refusal) → firstReason sizeOrder ≡ some why → BlockSizeDone r ws o x (size.Refused why)
@@ -91,8 +114,7 @@ module _ (r : Heap) (ws : List ℕ) (o x : ℕ) where
 
   module _ (v : valid r ws ≡ true) (l : Lookup) (f : LookedUp lookOrder r ws x l) where
     sized : LookedUp sizeOrder r ws x l
-    unfolding blockSizeOrder
-    sized = decides r ws x lookOrder sizeOrder (rw v) l f
+    sized = decides r ws x lookOrder sizeOrder (rw v (sym (size-asks (configOf r) (stateIn r ws) o x))) l f
 
     pub size-not : (why : Refusal) → l ≡ lookup.Refused why → BlockSizeDone r ws o x (size.Refused why)
     size-not why q = size-refused why (subst (LookedUp sizeOrder r ws x) q sized)
@@ -110,8 +132,8 @@ module _ (r : Heap) (ws : List ℕ) (o x : ℕ) where
     order = freeOrder (valid r ws) (configOf r) (stateIn r ws) arena o x
 
     pub free-decided : valid r ws ≡ true → length arena ≡ 16 * r .granules → (l : Lookup) → LookedUp lookOrder r ws x l → LookedUp order r ws x l
-    unfolding freeOrder
-    free-decided v a = decides r ws x lookOrder order (rw (v, eq-eqb (length arena) (16 * r .granules) a))
+    free-decided v a =
+        decides r ws x lookOrder order (rw v (sym (free-asks (configOf r) (stateIn r ws) arena o x (eq-eqb (length arena) (16 * r .granules) a))))
 
     module _ (l : Lookup) (f : LookedUp order r ws x l) where
       pub free-not : (why : Refusal) → l ≡ lookup.Refused why → FreeDone r ws arena o x (record { freed = freed.Refused why; heap = r }) ws arena

@@ -1,6 +1,6 @@
 -- What the calls' definitions come to, for a reader: laws that hold for every record and every table.
 -- Assumes nothing.
-use mathlib.Core.Path.{_≡_}
+use mathlib.Core.Path.{_≡_, sym}
 use mathlib.Core.Bool.{true, false}
 use mathlib.Core.List.{List, _∷_}
 use mathlib.Core.Option.{none, some}
@@ -14,10 +14,10 @@ use Rattle.model.specs.Allocation.{bytes, granulesOf, freeGranules}
 use Rattle.model.specs.SegmentMap.{longestFree}
 use Rattle.model.specs.Orders.{firstReason, allocOrder, freeOrder, initOrder, blockSizeOrder, totalsOrder, holdingOrder}
 use Rattle.model.specs.Rules.{initConfig, bytesAt}
-use Rattle.model.proofs.Choosing.{split, splitOption}
+use Rattle.model.proofs.Choosing.{split}
 use Rattle.model.proofs.Refusing.{refused-some}
 use Rattle.model.proofs.Kept.{Kept}
-use Rattle.model.proofs.Released.{Released, released}
+use Rattle.model.proofs.Released.{Released, answered}
 use Rattle.model.proofs.Bytes.{zeroed-each}
 use Rattle.model.proofs.Laws.{used-free, block-inside}
 use Rattle.heap.specs.Stored.{Stored}
@@ -53,17 +53,12 @@ free-refused s arena o x r e =
 pub free-zeroes : (s : Stored) (arena : List ℕ) (o x k : ℕ) → free s arena o x ≡ freed.Bytes k
     → (i : ℕ) → getD (arenaAfterFree s arena o x) i 0 ≡ choose (both (leb x i) (ltb i (x + k))) 0 (getD arena i 0)
 free-zeroes s arena o x k e i =
-    splitOption (firstReason (freeOrder (isValid s) (config s) (state s) arena o x))
-    (λ q.
-    let r : Released (isValid s) (config s) (state s) arena o x = released (isValid s) (config s) (state s) arena o x q in
-    let e′ : freed.Bytes (bytesAt (state s) x) ≡ freed.Bytes k = rw q at e in
-    let many : bytesAt (state s) x ≡ k = cc in
-    let held : bytesAt (state s) x ≡ bytes (r .block) = rw (r .found) in
+    let a = answered (isValid s) (config s) (state s) arena o x k e in
+    let r : Released (isValid s) (config s) (state s) arena o x = a .0 in
     let h : x + bytes (r .block) ≤ length arena =
     block-inside (config s) (state s) (valid-kept (s .heap) (s .words) (r .valid)) arena x (r .block) (r .whole) (r .found) in
-    let inside : x + k ≤ length arena = omega (arith, many, held) in
-    rw (q, many) (zeroed-each x k arena inside i))
-    (λ t q. let e′ : freed.Refused t ≡ freed.Bytes k = rw q at e in let w : _≡_ {A = ℕ} 0 1 = cc in absurd (omega arith))
+    let many : bytesAt (state s) x ≡ k = rw (r .found) (sym (a .2)) in
+    rw (a .1, many) (zeroed-each x k arena (omega (arith, a .2)) i)
 
 -- A making that is not refused sets one free row over the whole arena, zeroes the other rows and the arena, and sets used and peak to 0.
 pub init-done : (arena words : List ℕ) (p : Plan) → init arena words p ≡ made.Done

@@ -1,16 +1,17 @@
 -- What the functions within the crate decide and leave, step by step: a caller needs none of it.
 -- Assumes nothing.
-use Prim.Native.Nat.{ℕ, _-_, _*_, _<_, max}
+use Prim.Native.Nat.{ℕ, _-_, _*_, _/_, _<_, max}
 use mathlib.Core.Path.{_≡_}
-use mathlib.Core.Bool.{Bool, true}
-use mathlib.Core.List.{List}
+use mathlib.Core.Bool.{Bool, true, not}
+use mathlib.Core.List.{List, [], _∷_}
 use mathlib.Core.Option.{Option, none, some}
-use lib.Dec.{leb, eqb}
+use lib.Dec.{leb, ltb, eqb}
 use lib.ListN.{length, getD, drop}
 use Rattle.model.specs.Choose.{both, every}
 use Rattle.model.specs.Quantities.{within, owners, inRange, quota}
-use Rattle.model.specs.Allocation.{needed, lowestStart, blockAt, offset}
-use Rattle.model.specs.SegmentMap.{isLive}
+use Rattle.model.specs.Allocation.{needed, lowestStart, blockAt}
+use Rattle.model.specs.SegmentMap.{isFree}
+use Rattle.model.specs.Reasons.{notAligned}
 use Rattle.model.specs.Orders.{Order, firstReason}
 use Rattle.segments.specs.Rows.{segmentAt, blocksIn}
 use Rattle.segments.specs.Search.{Room}
@@ -19,6 +20,7 @@ use Rattle.heap.specs.Stored.{configOf}
 use Rattle.heap.specs.Valid.{valid}
 use Rattle.model.specs.declared.Segment.{Segment}
 use Rattle.model.specs.declared.Refusal.{Refusal}
+use Rattle.model.specs.declared.Refusal.the-variants as refusal
 use Rattle.segments.specs.declared.Census.{Census}
 use Rattle.heap.specs.declared.Heap.{Heap}
 use Rattle.heap.specs.declared.Verdict.{Verdict}
@@ -65,9 +67,15 @@ abbrev pub Decided : Order Refusal → Heap → List ℕ → ℕ → ℕ → Pla
 Decided order r ws n a (place.Refused why) = firstReason order ≡ some why
 Decided order r ws n a (place.At row start) = (firstReason order ≡ none) × Lowest r ws n a row start
 
--- A segment is a live block whose first byte is x.
-abbrev pub startsAt : Segment → ℕ → Bool
-startsAt s x = both (isLive s) (eqb (offset s) x)
+-- What owner o's offset x is asked with the segment that has its granule, and the arena's bytes: 15, 16, 17, 9, 10.
+abbrev pub offsetOrder : Segment → ℕ → ℕ → ℕ → Order Refusal
+offsetOrder s bytes o x =
+    (leb bytes x, refusal.PastEnd)
+    ∷ notAligned x
+    ∷ (isFree s, refusal.FreeMemory)
+    ∷ (ltb (s .start) (x / 16), refusal.InsideBlock)
+    ∷ (not (eqb (s .owner) o), refusal.OtherOwner)
+    ∷ []
 
 -- A row in use has the block at x.
 pub record BlockRow (r : Heap) (ws : List ℕ) (x row : ℕ) : Type 0 where

@@ -1,4 +1,4 @@
--- Each order of refusal, as the line of numbers that document 01 has.
+-- Each order of refusal, as the line of numbers that document 01 has, with those that document 02 puts into it.
 -- Assumes nothing.
 use mathlib.Core.Path.{_≡_, refl}
 use mathlib.Core.Bool.{Bool}
@@ -22,7 +22,7 @@ module _ (v : Bool) (c : Config) (h : State) (arena words : List ℕ) (p : Plan)
   alloc-line = refl
 
   -- For a return.
-  pub free-line : line numberOf (freeOrder v c h arena o x) ≡ 1 ∷ 11 ∷ 2 ∷ 9 ∷ 10 ∷ []
+  pub free-line : line numberOf (freeOrder v c h arena o x) ≡ 1 ∷ 11 ∷ 2 ∷ 15 ∷ 16 ∷ 17 ∷ 9 ∷ 10 ∷ []
   unfolding freeOrder
   free-line = refl
 
@@ -32,7 +32,7 @@ module _ (v : Bool) (c : Config) (h : State) (arena words : List ℕ) (p : Plan)
   init-line = refl
 
   -- For a block's size.
-  pub block-size-line : line numberOf (blockSizeOrder v h o x) ≡ 1 ∷ 2 ∷ 9 ∷ 10 ∷ []
+  pub block-size-line : line numberOf (blockSizeOrder v c h o x) ≡ 1 ∷ 2 ∷ 15 ∷ 16 ∷ 17 ∷ 9 ∷ 10 ∷ []
   unfolding blockSizeOrder
   block-size-line = refl
 

@@ -67,6 +67,14 @@ offset b = 16 * b .start
 abbrev pub blockAt : ℕ → List Segment → Option Segment
 blockAt x bs = firstOf (λ (b : Segment). eqb (offset b) x) bs
 
+-- A segment has granule i: it begins no later, and ends after it.
+abbrev pub hasGranule : ℕ → Segment → Bool
+hasGranule i b = both (leb (b .start) i) (ltb i (b .start + b .length))
+
+-- The block over granule i is the live block that has it, if there is one.
+abbrev pub blockOver : ℕ → List Segment → Option Segment
+blockOver i bs = firstOf (hasGranule i) bs
+
 -- A return takes the block at x out of the set.
 abbrev pub without : ℕ → List Segment → List Segment
 without x bs = only (λ (b : Segment). not (eqb (offset b) x)) bs

@@ -1,4 +1,4 @@
--- Document 01's orders of refusal, each as one list to lay beside its line, and its "proper" and "within limits".
+-- Documents 01's and 02's orders of refusal, each as one list to lay beside its line, and 01's "proper" and "within limits".
 -- Assumes nothing.
 use Prim.Native.Nat.{ℕ}
 use mathlib.Core.Bool.{Bool}
@@ -7,7 +7,7 @@ use mathlib.Core.Option.{Option, none, some}
 use Rattle.model.specs.Choose.{choose, given}
 use Rattle.model.specs.Quantities.{Config}
 use Rattle.model.specs.Allocation.{State, fit}
-use Rattle.model.specs.Reasons.{Reason, invalidHeap, badOwner, zeroSize, badAlignment, blockQuotaReached, granuleQuotaExceeded, noPlace, tableFull, notABlock, otherOwner, otherArena, badArena, badTable, badQuota}
+use Rattle.model.specs.Reasons.{Reason, invalidHeap, badOwner, zeroSize, badAlignment, blockQuotaReached, granuleQuotaExceeded, noPlace, tableFull, pastEnd, notAligned, freeMemory, insideBlock, otherOwner, otherArena, badArena, badTable, badQuota}
 use Rattle.model.specs.declared.Plan.{Plan}
 use Rattle.model.specs.declared.Refusal.{Refusal}
 use Rattle.model.specs.declared.InitRefusal.{InitRefusal}
@@ -31,24 +31,34 @@ module _ (isValid : Bool) (c : Config) (h : State) where
       ∷ tableFull c (h .blocks) (fit c (h .blocks) o n a)
       ∷ []
 
-  -- For a free: 1, 11, 2, 9, 10.
+  -- For a free: 1, 11, 2, 15, 16, 17, 9, 10.
   unfoldable pub freeOrder : List ℕ → ℕ → ℕ → Order Refusal
   freeOrder arena o x =
       invalidHeap isValid
       ∷ otherArena c arena
       ∷ badOwner o
-      ∷ notABlock (h .blocks) x
+      ∷ pastEnd c x
+      ∷ notAligned x
+      ∷ freeMemory (h .blocks) x
+      ∷ insideBlock (h .blocks) x
+      ∷ otherOwner (h .blocks) o x
+      ∷ []
+
+  -- For a block's size: 1, 2, 15, 16, 17, 9, 10.
+  unfoldable pub blockSizeOrder : ℕ → ℕ → Order Refusal
+  blockSizeOrder o x =
+      invalidHeap isValid
+      ∷ badOwner o
+      ∷ pastEnd c x
+      ∷ notAligned x
+      ∷ freeMemory (h .blocks) x
+      ∷ insideBlock (h .blocks) x
       ∷ otherOwner (h .blocks) o x
       ∷ []
 
 -- For making: 11, 12, 13.
 unfoldable pub initOrder : List ℕ → List ℕ → Plan → Order InitRefusal
 initOrder arena words p = badArena arena ∷ badTable words ∷ badQuota p ∷ []
-
--- For a block's size: 1, 2, 9, 10.
-unfoldable pub blockSizeOrder : Bool → State → ℕ → ℕ → Order Refusal
-blockSizeOrder isValid h o x =
-    invalidHeap isValid ∷ badOwner o ∷ notABlock (h .blocks) x ∷ otherOwner (h .blocks) o x ∷ []
 
 -- For the totals: 1.
 unfoldable pub totalsOrder : Bool → Order Refusal
@@ -79,6 +89,7 @@ quotaOrder c h o n = blockQuotaReached c (h .blocks) o ∷ granuleQuotaExceeded 
 abbrev pub placeOrder : Config → State → ℕ → ℕ → ℕ → Order Refusal
 placeOrder c h o n a = noPlace (fit c (h .blocks) o n a) ∷ tableFull c (h .blocks) (fit c (h .blocks) o n a) ∷ []
 
--- 2, 9 and 10 are the last of a free's order and of a block size's: what is asked of an owner and an offset.
-abbrev pub blockOrder : State → ℕ → ℕ → Order Refusal
-blockOrder h o x = badOwner o ∷ notABlock (h .blocks) x ∷ otherOwner (h .blocks) o x ∷ []
+-- 2, 15, 16, 17, 9 and 10 are the last of a free's order and of a block size's: what is asked of an owner and an offset.
+abbrev pub blockOrder : Config → State → ℕ → ℕ → Order Refusal
+blockOrder c h o x =
+    badOwner o ∷ pastEnd c x ∷ notAligned x ∷ freeMemory (h .blocks) x ∷ insideBlock (h .blocks) x ∷ otherOwner (h .blocks) o x ∷ []

@@ -1,6 +1,6 @@
--- Document 01's "Numbers that say no", 1 to 13: when each applies. (14 is the script program's.)
+-- Document 01's "Numbers that say no", 1 to 13, and document 02's: when each applies. (14 is the script program's.)
 -- Assumes nothing.
-use Prim.Native.Nat.{ℕ, _+_}
+use Prim.Native.Nat.{ℕ, _+_, _*_, _/_, _%_}
 use mathlib.Core.Bool.{Bool, false, not}
 use mathlib.Core.List.{List}
 use mathlib.Core.Option.{Option}
@@ -8,7 +8,7 @@ use lib.Dec.{leb, ltb, eqb}
 use lib.ListN.{length}
 use Rattle.model.specs.Choose.{total, given, isNone}
 use Rattle.model.specs.Quantities.{isArena, isTable, isOwner, quotasInRange, isAlignment, Config, quota}
-use Rattle.model.specs.Allocation.{needed, charge, put, blockAt, ownedBy}
+use Rattle.model.specs.Allocation.{needed, charge, put, blockAt, blockOver, ownedBy}
 use Rattle.model.specs.Arena.{hasRecordedLength}
 use Rattle.model.specs.SegmentMap.{rowsOf}
 use Rattle.model.specs.declared.Segment.{Segment}
@@ -54,11 +54,23 @@ noPlace f = (isNone f, refusal.NoPlace)
 abbrev pub tableFull : Config → List Segment → Option Segment → Reason Refusal
 tableFull c bs f = (ltb (c .capacity) (rowsOf c (put f bs)), refusal.TableFull)
 
--- 9: the offset is not the first byte of a live block.
-abbrev pub notABlock : List Segment → ℕ → Reason Refusal
-notABlock bs x = (isNone (blockAt x bs), refusal.NotABlock)
+-- 15: the offset is at or past the arena's end.
+abbrev pub pastEnd : Config → ℕ → Reason Refusal
+pastEnd c x = (leb (16 * c .granules) x, refusal.PastEnd)
 
--- 10: it is, but the block has another owner.
+-- 16: it is not a multiple of 16.
+abbrev pub notAligned : ℕ → Reason Refusal
+notAligned x = (not (eqb (x % 16) 0), refusal.NotAligned)
+
+-- 17: it is in free memory, as no live block has its granule.
+abbrev pub freeMemory : List Segment → ℕ → Reason Refusal
+freeMemory bs x = (isNone (blockOver (x / 16) bs), refusal.FreeMemory)
+
+-- 9: it is in a live block, after its first granule.
+abbrev pub insideBlock : List Segment → ℕ → Reason Refusal
+insideBlock bs x = (given (blockOver (x / 16) bs) false (λ b. ltb (b .start) (x / 16)), refusal.InsideBlock)
+
+-- 10: it is the first byte of a live block, but the block has another owner.
 abbrev pub otherOwner : List Segment → ℕ → ℕ → Reason Refusal
 otherOwner bs o x = (given (blockAt x bs) false (λ b. not (eqb (b .owner) o)), refusal.OtherOwner)
 

@@ -116,7 +116,7 @@ module _ (isValid : Bool) (c : Config) (h : State) where
   -- A block's size is the bytes requested and the bytes held.
   abbrev pub blockSize : ℕ → ℕ → BlockSize
   blockSize o x =
-      unless (blockSizeOrder isValid h o x) (size.Bytes (requestedAt h x) (bytesAt h x)) size.Refused
+      unless (blockSizeOrder isValid c h o x) (size.Bytes (requestedAt h x) (bytesAt h x)) size.Refused
 
   -- The totals are used, free, peak and the longest free run, all in bytes.
   abbrev pub totalsOf : Totals

@@ -117,9 +117,12 @@ refused-line refusal.BlockQuota = refl
 refused-line refusal.GranuleQuota = refl
 refused-line refusal.NoPlace = refl
 refused-line refusal.TableFull = refl
-refused-line refusal.NotABlock = refl
+refused-line refusal.InsideBlock = refl
 refused-line refusal.OtherOwner = refl
 refused-line refusal.ArenaLength = refl
+refused-line refusal.PastEnd = refl
+refused-line refusal.NotAligned = refl
+refused-line refusal.FreeMemory = refl
 
 -- So is each refusal of a making.
 pub not-made-line : (r : InitRefusal) → answerLine (answer.NotMade r) ≡ lineOf (ascii "no") (initNumberOf r ∷ [])

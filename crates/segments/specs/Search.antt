@@ -2,22 +2,15 @@
 -- Assumes nothing.
 use Prim.Native.Nat.{ℕ, _+_, _≤_, _<_}
 use mathlib.Core.Path.{_≡_}
-use mathlib.Core.Bool.{Bool, true}
+use mathlib.Core.Bool.{true}
 use mathlib.Core.List.{List}
 use mathlib.Core.Option.{Option, none, some}
-use lib.Dec.{leb, ltb}
-use Rattle.model.specs.Choose.{both}
 use Rattle.model.specs.Quantities.{Config}
-use Rattle.model.specs.Allocation.{lowestStart}
+use Rattle.model.specs.Allocation.{lowestStart, hasGranule}
 use Rattle.segments.specs.Rows.{segmentAt, segmentsIn, blocksIn}
 use Rattle.segments.specs.Tiling.{tiles}
-use Rattle.model.specs.declared.Segment.{Segment}
 use Rattle.segments.specs.declared.Fit.{Fit}
 use Rattle.segments.specs.declared.Fit.the-variants as fit
-
--- A granule is in a segment.
-abbrev pub hasGranule : ℕ → Segment → Bool
-hasGranule x s = both (leb (s .start) x) (ltb x (s .start + s .length))
 
 -- A row of n, in use, and the one with granule x if the rows tile an arena that has x.
 pub record RowOf (n x : ℕ) (ws : List ℕ) (row : ℕ) : Type 0 where

@@ -1,11 +1,12 @@
--- `heap::find_row` meets its contract: the row with the granule of the offset says which block is there.
+-- `heap::find_row` meets its contract: the row with the granule of the offset says what that gets.
 -- Assumes nothing.
-use mathlib.Core.Path.{sym, _∙_}
+use mathlib.Core.Path.{sym, ap, _∙_}
 use native.Mathlib.Omega.{arith}
 use borrow.Author.Needs.{needs}
 use borrow.Author.Tests.{not-true, not-false}
+use Rattle.heap.specs.Steps.{reasonIn}
 use Rattle.heap.proofs.Changing.{bounds}
-use Rattle.heap.proofs.Freeing.{row-words, no-block, other-block, own-block}
+use Rattle.heap.proofs.Freeing.{row-words, offset-refused, offset-passed}
 use Rattle.heap.proofs.find_row.Statement.{statement}
 use Rattle.heap.proofs.find_row.Tie as tie
 
@@ -25,29 +26,31 @@ row-of-requires c κs =
 row-requires : tie.Need-row-requires
 row-requires c κs = row-words _ _ (c .before .before .before .before .before .pre) _ (c .row-of .ensures .inUse)
 
-starts-at-requires : tie.Need-starts-at-requires
-starts-at-requires c κs = search needs
+mul-check-offset : tie.Need-mul-check-offset
+mul-check-offset c = omega (arith, bounds _ _ (c .before .before .before .before .before .before .before .pre) .granules)
+
+check-offset-requires : tie.Need-check-offset-requires
+check-offset-requires c κs = search needs
+
+enum-known-verdict : tie.Need-enum-known-verdict
+enum-known-verdict c = search needs
+
+enum-told : tie.Need-enum-told
+enum-told c = search needs
 
 returns-2 : tie.Need-returns-2
 returns-2 c =
-    let w = c .before .before in
+    let w = c .before .before .before .before .before in
     let p = w .before .before .before .before .before .before in
-    no-block _ _ (p .args .owner) _ (p .pre) (sym (w .before .before .before .before .is-owner .ensures) ∙ not-false _ (w .before .before .before .if1 .left)) _ (w .before .row-of .ensures) _ (w .row .ensures)
-    (sym (c .before .starts-at .ensures) ∙ not-true _ (c .if2 .taken))
+    offset-refused _ _ (p .args .owner) _ (p .pre) (sym (w .before .before .before .before .is-owner .ensures) ∙ not-false _ (w .before .before .before .if1 .left)) _ (w .before .row-of .ensures) _ (w .row .ensures)
+    _ (sym (c .before .before .before .check-offset .ensures) ∙ ap reasonIn (c .before .verdict .given .1))
 
 returns-3 : tie.Need-returns-3
 returns-3 c =
     let w = c .before .before .before .before in
     let p = w .before .before .before .before .before .before in
-    other-block _ _ (p .args .owner) _ (p .pre) (sym (w .before .before .before .before .is-owner .ensures) ∙ not-false _ (w .before .before .before .if1 .left)) _ (w .before .row-of .ensures) _ (w .row .ensures)
-    (sym (c .before .before .before .starts-at .ensures) ∙ not-false _ (c .before .before .if2 .left)) (λ z. omega arith)
-
-returns-4 : tie.Need-returns-4
-returns-4 c =
-    let w = c .before .before .before .before in
-    let p = w .before .before .before .before .before .before in
-    own-block _ _ (p .args .owner) _ (p .pre) (sym (w .before .before .before .before .is-owner .ensures) ∙ not-false _ (w .before .before .before .if1 .left)) _ (w .before .row-of .ensures) _ (w .row .ensures)
-    (sym (c .before .before .before .starts-at .ensures) ∙ not-false _ (c .before .before .if2 .left)) (omega arith)
+    offset-passed _ _ (p .args .owner) _ (p .pre) (sym (w .before .before .before .before .is-owner .ensures) ∙ not-false _ (w .before .before .before .if1 .left)) _ (w .before .row-of .ensures) _ (w .row .ensures)
+    (sym (c .before .before .check-offset .ensures) ∙ ap reasonIn (c .enum-told .given .1))
 
 pub find-row-spec : {M : Type 1} → statement M
 find-row-spec =
@@ -58,7 +61,9 @@ find-row-spec =
     cast-row-of
     row-of-requires
     row-requires
-    starts-at-requires
+    mul-check-offset
+    check-offset-requires
+    enum-known-verdict
+    enum-told
     returns-2
-    returns-3
-    returns-4)
+    returns-3)

@@ -1,0 +1,168 @@
+-- A second return gets 17 while its place is free: a law over a history, in which a block was returned and nothing was lent over its place since.
+-- Assumes nothing.
+use mathlib.Core.Path.{_≡_, ap, sym, _∙_, subst}
+use mathlib.Core.Bool.{Bool, true, false, not}
+use mathlib.Core.List.{List, [], _∷_}
+use mathlib.Core.Option.{none, some}
+use Prim.Native.Nat.{ℕ, _+_, _*_, _/_, _%_, _≤_, _<_}
+use native.Mathlib.Omega.{arith}
+use borrow.Author.Tests.{not-true}
+use Rattle.model.specs.Choose.{every}
+use Rattle.model.specs.Quantities.{isOwner, Config, inRange}
+use Rattle.model.specs.Allocation.{State, fresh, block, bytes, hasGranule, blockOver}
+use Rattle.model.specs.Arena.{hasRecordedLength}
+use Rattle.model.specs.Orders.{firstReason, allocOrder, freeOrder, blockSizeOrder, blockOrder}
+use Rattle.model.specs.Rules as rules
+use Rattle.model.specs.Rules.{initConfig}
+use Rattle.model.specs.Run.{after, history}
+use Rattle.model.proofs.Choosing.{splitOption, every-head, every-tail}
+use Rattle.model.proofs.Offsets.{over-insert, over-only, over-without, in-granule, Begins, begins}
+use Rattle.model.proofs.Allocated.{Allocated, allocated}
+use Rattle.model.proofs.Released.{Released, answered}
+use Rattle.model.proofs.Kept.{Kept}
+use Rattle.model.proofs.Laws.{free-asks, size-asks, gets-17}
+use Rattle.heap.specs.Stored.{Stored, store}
+use Rattle.heap.specs.Calls.{init, afterInit, free, afterFree, blockSize}
+use Rattle.heap.proofs.Making.{init-range, init-leaves, fresh-kept}
+use Rattle.guarantee.specs.Lists.{Call, alloc, alloc-aligned, free as return, block-size, totals, holding, Answer, byRules, execute}
+use Rattle.guarantee.specs.Guarantee.{stateAfter, storedAfter}
+use Rattle.guarantee.specs.Performed.{Entry}
+use Rattle.guarantee.proofs.Steps.{keep, answers-same, leaves-same}
+use Rattle.guarantee.proofs.Guarantee.{kept-after, stored-after, history-same}
+use Rattle.model.specs.declared.Segment.{Segment}
+use Rattle.model.specs.declared.Plan.{Plan}
+use Rattle.model.specs.declared.Refusal.the-variants as refusal
+use Rattle.model.specs.declared.Made.the-variants as made
+use Rattle.model.specs.declared.Placed.{Placed}
+use Rattle.model.specs.declared.Placed.the-variants as placed
+use Rattle.model.specs.declared.Freed.the-variants as freed
+use Rattle.model.specs.declared.BlockSize.the-variants as size
+
+module _ (c : Config) (i : ℕ) where
+  -- An allocation of n bytes that is answered so is lent granule i: its block has it.
+  abbrev pub lentBy : ℕ → ℕ → Placed → Bool
+  lentBy o n (placed.At x) = hasGranule i (block c o n (x / 16))
+  lentBy o n (placed.Refused r) = false
+
+  -- A call with its answer is lent granule i; only allocations are lent any.
+  abbrev pub isLent : (k : Call) → Answer k → Bool
+  isLent (alloc o n) r = lentBy o n r
+  isLent (alloc-aligned o n a) r = lentBy o n r
+  isLent (return arena o x) r = false
+  isLent (block-size o x) r = false
+  isLent totals r = false
+  isLent (holding o) r = false
+
+  -- In a history nothing is lent over granule i.
+  abbrev pub nothingLent : List Entry → Bool
+  nothingLent es = every (λ (e : Entry). not (isLent (e .0) (e .1))) es
+
+  -- a call that is not lent a granule that no live block has leaves it so
+  alloc-stays : (h : State) (o n a : ℕ) → lentBy o n (rules.alloc true c h o n a) ≡ false → blockOver i (h .blocks) ≡ none
+      → blockOver i (rules.afterAlloc true c h o n a .blocks) ≡ none
+  alloc-stays h o n a l e =
+      splitOption (firstReason (allocOrder true c h o n a))
+      (λ q. let r : Allocated c h o n a = allocated c h true o n a q in
+      let z : (16 * r .start) / 16 ≡ r .start = omega arith in
+      rw (q, r .fits) (over-insert i (block c o n (r .start)) (h .blocks) (rw (q, r .fits, z) at l) e))
+      (λ r q. rw q e)
+
+  stays : (h : State) (k : Call) → isLent k (byRules c h k .0) ≡ false → blockOver i (h .blocks) ≡ none → blockOver i (byRules c h k .1 .blocks) ≡ none
+  stays h (alloc o n) l e = alloc-stays h o n 16 l e
+  stays h (alloc-aligned o n a) l e = alloc-stays h o n a l e
+  stays h (return arena o x) l e =
+      splitOption (firstReason (freeOrder true c h arena o x)) (λ q. rw q (over-only i _ (h .blocks) e)) (λ r q. rw q e)
+  stays h (block-size o x) l e = e
+  stays h totals l e = e
+  stays h (holding o) l e = e
+
+  -- and so does a list
+  stays-free : (h : State) (ls : List Call) → nothingLent (history (byRules c) h ls) ≡ true → blockOver i (h .blocks) ≡ none
+      → blockOver i (after (byRules c) h ls .blocks) ≡ none
+  stays-free h [] n e = e
+  stays-free h (k ∷ ks) n e =
+      let es : List Entry = history (byRules c) (byRules c h k .1) ks in
+      let p : Entry → Bool = λ (e : Entry). not (isLent (e .0) (e .1)) in
+      stays-free (byRules c h k .1) ks (every-tail p (k, byRules c h k .0) es n) (stays h k (not-true _ (every-head p (k, byRules c h k .0) es n)) e)
+
+-- In a heap that s leaves, a list of calls follows in which nothing is lent over the granule of y: after it a return of y, lent the whole arena, and an enquiry
+-- for its size get 17, whichever owner asks.
+abbrev pub Gets17 : Config → Stored → List Call → ℕ → Type 0
+Gets17 c s ks y =
+    nothingLent c (y / 16) (history execute s ks) ≡ true
+    → (arena : List ℕ) (o : ℕ) → hasRecordedLength c arena ≡ true → isOwner o ≡ true
+    → (free (storedAfter s ks) arena o y ≡ freed.Refused refusal.FreeMemory) × (blockSize (storedAfter s ks) o y ≡ size.Refused refusal.FreeMemory)
+
+-- of a heap that is written down, in a state that every call keeps
+module _ (c : Config) (ranged : inRange c ≡ true) (h : State) (k : Kept c h) where
+  -- a granule of the arena that no live block has
+  free-17 : (ks : List Call) (y : ℕ) → y % 16 ≡ 0 → y / 16 < c .granules → blockOver (y / 16) (h .blocks) ≡ none → Gets17 c (store c h) ks y
+  free-17 ks y aligned inside e n arena o whole owner =
+      let g : State = after (byRules c) h ks in
+      let gk : Kept c g = kept-after c h ks k in
+      let over : blockOver (y / 16) (g .blocks) ≡ none = stays-free c (y / 16) h ks (ap (λ (es : List Entry). nothingLent c (y / 16) es) (sym (history-same c ranged h ks k)) ∙ n) e in
+      let why : firstReason (blockOrder c g o y) ≡ some refusal.FreeMemory = gets-17 c g o y owner (y / 16) (omega arith) inside over in
+      let f : firstReason (freeOrder true c g arena o y) ≡ some refusal.FreeMemory = free-asks c g arena o y whole ∙ why in
+      let b : firstReason (blockSizeOrder true c g o y) ≡ some refusal.FreeMemory = size-asks c g o y ∙ why in
+      (
+        ap (λ (s : Stored). free s arena o y) (stored-after c ranged h ks k) ∙ answers-same c g gk ranged (return arena o y) ∙ rw f,
+        ap (λ (s : Stored). blockSize s o y) (stored-after c ranged h ks k) ∙ answers-same c g gk ranged (block-size o y) ∙ rw b,
+      )
+
+-- the block that is returned there
+module _ (c : Config) (ranged : inRange c ≡ true) (h : State) (k : Kept c h) (arena : List ℕ) (o x held : ℕ) (e : rules.free true c h arena o x ≡ freed.Bytes held) where
+  abbrev Found : Type 0
+  Found = (r : Released true c h arena o x) × (firstReason (freeOrder true c h arena o x) ≡ none) × (held ≡ bytes (r .block))
+
+  found : Found
+  found = answered true c h arena o x held e
+
+  at : Begins c 0 x (h .blocks) (found .0 .block)
+  at = begins c 0 x (h .blocks) (found .0 .block) (k .ordered) (found .0 .found)
+
+  at-first : (x < x + held) × (x % 16 ≡ 0)
+  at-first = (omega (arith, found .2, at .long), omega (arith, at .first))
+
+  returned-17 : (ks : List Call) (y : ℕ) → x ≤ y → y < x + held → y % 16 ≡ 0 → Gets17 c (store c (byRules c h (return arena o x) .1)) ks y
+  returned-17 ks y low high aligned =
+      let b : Segment = found .0 .block in
+      let in-block : hasGranule (y / 16) b ≡ true = in-granule (y / 16) b (omega (arith, at .first)) (omega (arith, at .first, found .2)) in
+      let over : blockOver (y / 16) (byRules c h (return arena o x) .1 .blocks) ≡ none =
+      rw (found .1) (over-without c 0 x (y / 16) (h .blocks) b (k .ordered) (found .0 .found) in-block) in
+      free-17 c ranged (byRules c h (return arena o x) .1) (keep c h k (return arena o x)) ks y aligned (omega (arith, at .first, at .inside, found .2)) over
+
+-- After a making that is not refused and a list of calls, a free by o of the block at x is answered with its k bytes; after that free comes another list.
+module _ (arena words : List ℕ) (p : Plan) (done : init arena words p ≡ made.Done) (before : List Call) (lent : List ℕ) (o x k : ℕ)
+    (granted : free (storedAfter (afterInit arena words p) before) lent o x ≡ freed.Bytes k) (since : List Call) where
+  -- What the free leaves.
+  abbrev pub returned : Stored
+  returned = afterFree (storedAfter (afterInit arena words p) before) lent o x
+
+  abbrev c : Config
+  c = initConfig arena words p
+
+  abbrev h : State
+  h = stateAfter c before
+
+  ranged : inRange c ≡ true
+  ranged = init-range arena words p done
+
+  kept : Kept c h
+  kept = kept-after c fresh before (fresh-kept c ranged)
+
+  stored : storedAfter (afterInit arena words p) before ≡ store c h
+  stored = ap (λ (s : Stored). storedAfter s before) (init-leaves arena words p done) ∙ stored-after c ranged fresh before (fresh-kept c ranged)
+
+  left : returned ≡ store c (byRules c h (return lent o x) .1)
+  left = ap (λ (s : Stored). afterFree s lent o x) stored ∙ leaves-same c h kept ranged (return lent o x)
+
+  held : rules.free true c h lent o x ≡ freed.Bytes k
+  held = sym (answers-same c h kept ranged (return lent o x)) ∙ ap (λ (s : Stored). free s lent o x) (sym stored) ∙ granted
+
+  -- A multiple of 16 in the block's place gets 17 while nothing is lent over its granule.
+  pub freed-gets-17 : (y : ℕ) → x ≤ y → y < x + k → y % 16 ≡ 0 → Gets17 (initConfig arena words p) returned since y
+  freed-gets-17 y low high aligned = subst (λ (s : Stored). Gets17 c s since y) (sym left) (returned-17 c ranged h kept lent o x k held since y low high aligned)
+
+  -- So a second return of the offset gets 17 while its place is free.
+  pub second-free : Gets17 (initConfig arena words p) returned since x
+  second-free = let f = at-first c ranged h kept lent o x k held in freed-gets-17 x (omega arith) (f .0) (f .1)
