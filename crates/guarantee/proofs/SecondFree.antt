@@ -103,8 +103,7 @@ module _ (c : Config) (ranged : inRange c ≡ true) (h : State) (k : Kept c h) w
       let over : blockOver (y / 16) (g .blocks) ≡ none = stays-free c (y / 16) h ks (ap (λ (es : List Entry). nothingLent c (y / 16) es) (sym (history-same c ranged h ks k)) ∙ n) e in
       let why : firstReason (blockOrder c g o y) ≡ some refusal.FreeMemory = gets-17 c g o y owner (y / 16) (omega arith) inside over in
       let f : firstReason (freeOrder true c g arena o y) ≡ some refusal.FreeMemory = free-asks c g arena o y whole ∙ why in
-      let b : firstReason (blockSizeOrder true c g o y) ≡ some refusal.FreeMemory = size-asks c g o y ∙ why in
-      (
+      let b : firstReason (blockSizeOrder true c g o y) ≡ some refusal.FreeMemory = size-asks c g o y ∙ why in (
         ap (λ (s : Stored). free s arena o y) (stored-after c ranged h ks k) ∙ answers-same c g gk ranged (return arena o y) ∙ rw f,
         ap (λ (s : Stored). blockSize s o y) (stored-after c ranged h ks k) ∙ answers-same c g gk ranged (block-size o y) ∙ rw b,
       )

@@ -47,14 +47,7 @@ module _ (isValid : Bool) (c : Config) (h : State) where
   -- For a block's size: 1, 2, 15, 16, 17, 9, 10.
   unfoldable pub blockSizeOrder : ℕ → ℕ → Order Refusal
   blockSizeOrder o x =
-      invalidHeap isValid
-      ∷ badOwner o
-      ∷ pastEnd c x
-      ∷ notAligned x
-      ∷ freeMemory (h .blocks) x
-      ∷ insideBlock (h .blocks) x
-      ∷ otherOwner (h .blocks) o x
-      ∷ []
+      invalidHeap isValid ∷ badOwner o ∷ pastEnd c x ∷ notAligned x ∷ freeMemory (h .blocks) x ∷ insideBlock (h .blocks) x ∷ otherOwner (h .blocks) o x ∷ []
 
 -- For making: 11, 12, 13.
 unfoldable pub initOrder : List ℕ → List ℕ → Plan → Order InitRefusal

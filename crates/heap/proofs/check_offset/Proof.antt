@@ -16,22 +16,22 @@ returns-2 c =
 
 returns-3 : tie.Need-returns-3
 returns-3 c =
-    let a = c .before .before .before .before .args in
+    let a = c .before .before .before .args in
     rw (lt-leb (a .bytes) (a .offset) (omega arith), eq-eqb (a .offset % 16) 0 (omega arith), eq-eqb (a .s .owner) 0 (omega arith))
 
 returns-4 : tie.Need-returns-4
 returns-4 c =
-    let a = c .before .before .before .before .before .before .args in
+    let a = c .before .before .before .before .before .args in
     rw (lt-leb (a .bytes) (a .offset) (omega arith), eq-eqb (a .offset % 16) 0 (omega arith), ne-eqb (a .s .owner) 0 (λ z. omega arith), lt-ltb (a .s .start) (a .offset / 16) (omega arith))
 
 returns-5 : tie.Need-returns-5
 returns-5 c =
-    let a = c .before .before .before .before .before .before .before .before .args in
+    let a = c .before .before .before .before .before .before .args in
     rw (lt-leb (a .bytes) (a .offset) (omega arith), eq-eqb (a .offset % 16) 0 (omega arith), ne-eqb (a .s .owner) 0 (λ z. omega arith), le-ltb (a .s .start) (a .offset / 16) (omega arith), ne-eqb (a .s .owner) (a .owner) (λ z. omega arith))
 
 returns-6 : tie.Need-returns-6
 returns-6 c =
-    let a = c .before .before .before .before .before .before .before .before .args in
+    let a = c .before .before .before .before .before .before .args in
     rw (lt-leb (a .bytes) (a .offset) (omega arith), eq-eqb (a .offset % 16) 0 (omega arith), ne-eqb (a .s .owner) 0 (λ z. omega arith), le-ltb (a .s .start) (a .offset / 16) (omega arith), eq-eqb (a .s .owner) (a .owner) (omega arith))
 
 pub check-offset-spec : {M : Type 1} → statement M
