@@ -411,7 +411,7 @@ fn ask(script: Script, table: &mut [u32], owner: u32, size: u32, align: u32) -> 
     }
 }
 
-// `back O OFFSET`: a free. Refused with 1, 11, 2, 9, 10, in this order; 11 only if fewer bytes are lent than the heap was made with.
+// `back O OFFSET`: a free. Refused with 1, 11, 2, 15, 16, 17, 9, 10, in this order; 11 only if fewer bytes are lent than the heap was made with.
 fn back(script: Script, table: &mut [u32], arena: &mut [u8], owner: u32, offset: u32) -> Carried
     ensures { λ r. ⌜ CommandDone script (now (table .entry)) (now (arena .entry)) (Command.Back owner offset) r (now (table .exit)) (now (arena .exit)) ⌝ }
 {
