@@ -1,17 +1,18 @@
 -- A second return gets 17 while its place is free: a law over a history, in which a block was returned and nothing was lent over its place since.
 -- Assumes nothing.
-use mathlib.Core.Path.{_≡_, ap, sym, _∙_, subst}
+use mathlib.Core.Path.{_≡_, refl, ap, sym, _∙_, subst}
 use mathlib.Core.Bool.{Bool, true, false, not}
 use mathlib.Core.List.{List, [], _∷_}
 use mathlib.Core.Option.{none, some}
 use Prim.Native.Nat.{ℕ, _+_, _*_, _/_, _%_, _≤_, _<_}
 use native.Mathlib.Omega.{arith}
+use lib.ListN.{replicate}
 use borrow.Author.Tests.{not-true}
 use Rattle.model.specs.Choose.{every}
 use Rattle.model.specs.Quantities.{isOwner, Config, inRange}
 use Rattle.model.specs.Allocation.{State, fresh, block, bytes, hasGranule, blockOver}
 use Rattle.model.specs.Arena.{hasRecordedLength}
-use Rattle.model.specs.Orders.{firstReason, allocOrder, freeOrder, blockSizeOrder, blockOrder}
+use Rattle.model.specs.Orders.{firstReason, allocOrder, freeOrder, blockSizeOrder, blockOrder, initOrder}
 use Rattle.model.specs.Rules as rules
 use Rattle.model.specs.Rules.{initConfig}
 use Rattle.model.specs.Run.{after, history}
@@ -22,11 +23,13 @@ use Rattle.model.proofs.Released.{Released, answered}
 use Rattle.model.proofs.Kept.{Kept}
 use Rattle.model.proofs.Laws.{free-asks, size-asks, gets-17}
 use Rattle.heap.specs.Stored.{Stored, store}
+use Rattle.heap.specs.Valid.{valid}
 use Rattle.heap.specs.Calls.{init, afterInit, free, afterFree, blockSize}
 use Rattle.heap.proofs.Making.{init-range, init-leaves, fresh-kept}
 use Rattle.guarantee.specs.Lists.{Call, alloc, alloc-aligned, free as return, block-size, totals, holding, Answer, byRules, execute}
 use Rattle.guarantee.specs.Guarantee.{stateAfter, storedAfter}
 use Rattle.guarantee.specs.Performed.{Entry}
+use Rattle.guarantee.specs.Cases.{arena, plan, small}
 use Rattle.guarantee.proofs.Steps.{keep, answers-same, leaves-same}
 use Rattle.guarantee.proofs.Guarantee.{kept-after, stored-after, history-same}
 use Rattle.model.specs.declared.Segment.{Segment}
@@ -165,3 +168,8 @@ module _ (arena words : List ℕ) (p : Plan) (done : init arena words p ≡ made
   -- So a second return of the offset gets 17 while its place is free.
   pub second-free : Gets17 (initConfig arena words p) returned since x
   second-free = let f = at-first c ranged h kept lent o x k held in freed-gets-17 x (omega arith) (f .0) (f .1)
+
+-- On the heap of P5 to P13 owners 1 and 2 are lent a granule each, at 0 and 16, and owner 1 returns its own; then it is lent 32 bytes, at 32. It returns 0 again.
+pub twice : free (storedAfter (afterFree (storedAfter small (alloc 1 16 ∷ alloc 2 16 ∷ [])) arena 1 0) (alloc 1 32 ∷ [])) arena 1 0 ≡ freed.Refused refusal.FreeMemory
+unfolding valid allocOrder freeOrder initOrder
+twice = second-free arena (replicate 32 0) plan refl (alloc 1 16 ∷ alloc 2 16 ∷ []) arena 1 0 16 refl (alloc 1 32 ∷ []) refl arena 1 refl refl .0
