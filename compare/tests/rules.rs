@@ -1,4 +1,4 @@
-//! The reference against the paper's example, edges and easy mistakes. Strokes
+//! The reference against the papers' example, edges and easy mistakes. Strokes
 //! stand for newlines.
 
 use compare::heap::granules;
@@ -273,7 +273,7 @@ const LENT: [&str; 3] = [
     "seg 0 32 1 32/seg 32 32 2 32/seg 64 16 0 0/seg 80 16 1 16/seg 96 32 0 0/sum 80 48 96 32",
 ];
 
-/// Each owner is refused each offset of that heap, and the heap stays.
+/// Each of the owners is refused each of the offsets, and the heap stays.
 fn expect_refused(owners: &[u32], offsets: &[u32], number: u32) {
     let [opening, opened, closing] = LENT;
     for owner in owners {

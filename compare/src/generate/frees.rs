@@ -1,5 +1,5 @@
-//! What a free names: mostly a live block and its owner, else a place that the
-//! heap refuses, on both sides of where one refusal gives way to another.
+//! What a free names: mostly a live block and its owner, else mostly a place that
+//! the heap refuses, on both sides of where one refusal gives way to another.
 
 use crate::heap::{Heap, Row, GRANULE};
 use crate::random::Random;
@@ -19,8 +19,8 @@ pub fn aimed_free(random: &mut Random, heap: &Heap, freed: &mut Vec<Row>) -> (u6
     (block.owner, first_byte(block))
 }
 
-/// Owner and offset that seldom free anything. The owner is often the one who
-/// holds the place, so that nothing but the offset is wrong.
+/// Owner and offset that seldom free anything. The owner is often that of the
+/// place or of another row, so that often nothing but the offset is wrong.
 fn stray_free(random: &mut Random, heap: &Heap, freed: &[Row]) -> (u64, u64) {
     let rows = heap.rows();
     let (row, offset) = match random.below(20) {

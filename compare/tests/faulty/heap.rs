@@ -14,7 +14,7 @@ pub struct Heap {
     arena: u32,
     used: u32,
     peak: u32,
-    /// Starts of blocks that were live once.
+    /// Starts of blocks that were freed.
     freed: Vec<u32>,
 }
 

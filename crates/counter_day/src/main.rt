@@ -1,5 +1,5 @@
 // A counter's day over the drivers' layer: two checkout tasks (owners 1 and 2) and the modem (owner 3) borrow from one heap. Each call is printed with
-// its answer, `ok` and the values or `no` and document 01's number. What 01's rules give stands in `stdout`, beside `src/`.
+// its answer, `ok` and the values or `no` and its number. What the papers' rules give stands in `stdout`, beside `src/`.
 use heap::Heap;
 use model::BlockSize;
 use model::Freed;
@@ -181,8 +181,8 @@ fn evening(heap: Heap, table: &mut [u32; 68], arena: &mut [u8; 512]) -> Heap {
     h
 }
 
-// Bad returns, each with its own number: the arena's end and its last granule, a hole, and a block after its first granule.
-fn bad_returns(heap: Heap, table: &mut [u32; 68], arena: &mut [u8; 512]) -> Heap {
+// Each kind of bad offset has its own number: the arena's end and its last granule, a hole, and a block after its first granule.
+fn bad_frees(heap: Heap, table: &mut [u32; 68], arena: &mut [u8; 512]) -> Heap {
     let mut h = heap;
     h = free(h, table, arena, 3, 512);
     h = free(h, table, arena, 3, 511);
@@ -193,7 +193,7 @@ fn bad_returns(heap: Heap, table: &mut [u32; 68], arena: &mut [u8; 512]) -> Heap
     h
 }
 
-// The same for enquiries: one past the end, a block's second byte, a hole, a block's second granule, and its first for its owner and for another.
+// The same for enquiries: a byte past the end, a block's second byte, a hole, a block's second granule, and its first for its owner and for another.
 fn sizes(heap: Heap, table: &[u32; 68]) {
     block_size(heap, table, 1, 513);
     block_size(heap, table, 1, 161);
@@ -218,7 +218,7 @@ fn main() {
     heap = morning(heap, &mut table, &mut arena);
     heap = noon(heap, &mut table, &mut arena);
     heap = evening(heap, &mut table, &mut arena);
-    heap = bad_returns(heap, &mut table, &mut arena);
+    heap = bad_frees(heap, &mut table, &mut arena);
     sizes(heap, &table);
     closing(heap, &table);
 }

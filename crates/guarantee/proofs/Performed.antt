@@ -12,8 +12,8 @@ use Rattle.guarantee.specs.Guarantee.{stateAfter, storedAfter, Served, G
 use Rattle.guarantee.specs.Performed.{Promised, Entry, Performed, callsOf, Demand3Performed}
 use Rattle.guarantee.proofs.Guarantee.{guarantee}
 
--- one call: the promise is what `execute` says
-promised : (s : Stored) (k : Call) (r : Answer k) (t : Stored) → Promised s k r t → (r ≡ execute s k .0) × (t ≡ execute s k .1)
+-- One call: the promise is what `execute` says.
+pub promised : (s : Stored) (k : Call) (r : Answer k) (t : Stored) → Promised s k r t → (r ≡ execute s k .0) × (t ≡ execute s k .1)
 promised s (alloc o n) r t d = (d .answer, λ i. record { heap = d .heap i; words = d .table i })
 promised s (alloc-aligned o n a) r t d = (d .answer, λ i. record { heap = d .heap i; words = d .table i })
 promised s (free arena o x) r t d = (d .1 .answer, λ i. record { heap = d .1 .heap i; words = d .1 .table i })
@@ -21,8 +21,8 @@ promised s (block-size o x) r t d = (d .0 .answer, d .1)
 promised s totals r t d = (d .0 .answer, d .1)
 promised s (holding o) r t d = (d .0 .answer, d .1)
 
--- a list
-performed : (s : Stored) (es : List Entry) (t : Stored) → Performed s es t → (es ≡ history execute s (callsOf es)) × (t ≡ after execute s (callsOf es))
+-- A list of calls.
+pub performed : (s : Stored) (es : List Entry) (t : Stored) → Performed s es t → (es ≡ history execute s (callsOf es)) × (t ≡ after execute s (callsOf es))
 performed s [] t d = (refl, d)
 performed s (e ∷ es) t d =
     let one : (e .1 ≡ execute s (e .0) .0) × (d .0 ≡ execute s (e .0) .1) = promised s (e .0) (e .1) (d .0) (d .1) in

@@ -1,4 +1,4 @@
--- A second return gets 17 while its place is free: a law over a history, in which a block was returned and nothing was lent over its place since.
+-- A second free gets 17 while its place is free: a law over a history, in which a block was freed and nothing was lent over its place since.
 -- Assumes nothing.
 use mathlib.Core.Path.{_≡_, refl, ap, sym, _∙_, subst}
 use mathlib.Core.Bool.{Bool, true, false, not}
@@ -21,24 +21,28 @@ use Rattle.model.proofs.Offsets.{over-insert, over-only, over-without, in-granu
 use Rattle.model.proofs.Allocated.{Allocated, allocated}
 use Rattle.model.proofs.Released.{Released, answered}
 use Rattle.model.proofs.Kept.{Kept}
-use Rattle.model.proofs.Laws.{free-asks, size-asks, gets-17}
-use Rattle.heap.specs.Stored.{Stored, store}
+use Rattle.model.proofs.Asked.{free-asks, size-asks, free-memory}
+use Rattle.heap.specs.Stored.{Stored, handed, store}
 use Rattle.heap.specs.Valid.{valid}
+use Rattle.heap.specs.Promises.{InitDone}
 use Rattle.heap.specs.Calls.{init, afterInit, free, afterFree, blockSize}
 use Rattle.heap.proofs.Making.{init-range, init-leaves, fresh-kept}
 use Rattle.guarantee.specs.Lists.{Call, alloc, alloc-aligned, free as return, block-size, totals, holding, Answer, byRules, execute}
 use Rattle.guarantee.specs.Guarantee.{stateAfter, storedAfter}
-use Rattle.guarantee.specs.Performed.{Entry}
+use Rattle.guarantee.specs.Performed.{Entry, Promised, Performed, callsOf}
 use Rattle.guarantee.specs.Cases.{arena, plan, small}
 use Rattle.guarantee.proofs.Steps.{keep, answers-same, leaves-same}
 use Rattle.guarantee.proofs.Guarantee.{kept-after, stored-after, history-same}
+use Rattle.guarantee.proofs.Performed.{promised, performed}
 use Rattle.model.specs.declared.Segment.{Segment}
 use Rattle.model.specs.declared.Plan.{Plan}
 use Rattle.model.specs.declared.Refusal.the-variants as refusal
 use Rattle.model.specs.declared.Made.the-variants as made
 use Rattle.model.specs.declared.Placed.{Placed}
 use Rattle.model.specs.declared.Placed.the-variants as placed
+use Rattle.model.specs.declared.Freed.{Freed}
 use Rattle.model.specs.declared.Freed.the-variants as freed
+use Rattle.heap.specs.declared.Initialized.{Initialized}
 use Rattle.model.specs.declared.BlockSize.the-variants as size
 
 module _ (c : Config) (i : ℕ) where
@@ -88,15 +92,15 @@ module _ (c : Config) (i : ℕ) where
       let p : Entry → Bool = λ (e : Entry). not (isLent (e .0) (e .1)) in
       stays-free (byRules c h k .1) ks (every-tail p (k, byRules c h k .0) es n) (stays h k (not-true _ (every-head p (k, byRules c h k .0) es n)) e)
 
--- In a heap that s leaves, a list of calls follows in which nothing is lent over the granule of y: after it a return of y, lent the whole arena, and an enquiry
--- for its size get 17, whichever owner asks.
+-- On the heap s a list of calls follows in which nothing is lent over the granule of y: after it a free of y that is lent the whole arena, and an enquiry for
+-- its size, get 17, whichever owner asks.
 abbrev pub Gets17 : Config → Stored → List Call → ℕ → Type 0
 Gets17 c s ks y =
     nothingLent c (y / 16) (history execute s ks) ≡ true
     → (arena : List ℕ) (o : ℕ) → hasRecordedLength c arena ≡ true → isOwner o ≡ true
     → (free (storedAfter s ks) arena o y ≡ freed.Refused refusal.FreeMemory) × (blockSize (storedAfter s ks) o y ≡ size.Refused refusal.FreeMemory)
 
--- of a heap that is written down, in a state that every call keeps
+-- of a heap that is written down, in a state as every call leaves it
 module _ (c : Config) (ranged : inRange c ≡ true) (h : State) (k : Kept c h) where
   -- a granule of the arena that no live block has
   free-17 : (ks : List Call) (y : ℕ) → y % 16 ≡ 0 → y / 16 < c .granules → blockOver (y / 16) (h .blocks) ≡ none → Gets17 c (store c h) ks y
@@ -104,14 +108,14 @@ module _ (c : Config) (ranged : inRange c ≡ true) (h : State) (k : Kept c h) w
       let g : State = after (byRules c) h ks in
       let gk : Kept c g = kept-after c h ks k in
       let over : blockOver (y / 16) (g .blocks) ≡ none = stays-free c (y / 16) h ks (ap (λ (es : List Entry). nothingLent c (y / 16) es) (sym (history-same c ranged h ks k)) ∙ n) e in
-      let why : firstReason (blockOrder c g o y) ≡ some refusal.FreeMemory = gets-17 c g o y owner (y / 16) (omega arith) inside over in
+      let why : firstReason (blockOrder c g o y) ≡ some refusal.FreeMemory = free-memory c g o y owner (y / 16) (omega arith) inside over in
       let f : firstReason (freeOrder true c g arena o y) ≡ some refusal.FreeMemory = free-asks c g arena o y whole ∙ why in
       let b : firstReason (blockSizeOrder true c g o y) ≡ some refusal.FreeMemory = size-asks c g o y ∙ why in (
         ap (λ (s : Stored). free s arena o y) (stored-after c ranged h ks k) ∙ answers-same c g gk ranged (return arena o y) ∙ rw f,
         ap (λ (s : Stored). blockSize s o y) (stored-after c ranged h ks k) ∙ answers-same c g gk ranged (block-size o y) ∙ rw b,
       )
 
--- the block that is returned there
+-- the block that is freed there
 module _ (c : Config) (ranged : inRange c ≡ true) (h : State) (k : Kept c h) (arena : List ℕ) (o x held : ℕ) (e : rules.free true c h arena o x ≡ freed.Bytes held) where
   abbrev Found : Type 0
   Found = (r : Released true c h arena o x) × (firstReason (freeOrder true c h arena o x) ≡ none) × (held ≡ bytes (r .block))
@@ -133,13 +137,8 @@ module _ (c : Config) (ranged : inRange c ≡ true) (h : State) (k : Kept c h) (
       rw (found .1) (over-without c 0 x (y / 16) (h .blocks) b (k .ordered) (found .0 .found) in-block) in
       free-17 c ranged (byRules c h (return arena o x) .1) (keep c h k (return arena o x)) ks y aligned (omega (arith, at .first, at .inside, found .2)) over
 
--- After a making that is not refused and a list of calls, a free by o of the block at x is answered with its k bytes; after that free comes another list.
-module _ (arena words : List ℕ) (p : Plan) (done : init arena words p ≡ made.Done) (before : List Call) (lent : List ℕ) (o x k : ℕ)
-    (granted : free (storedAfter (afterInit arena words p) before) lent o x ≡ freed.Bytes k) (since : List Call) where
-  -- What the free leaves.
-  abbrev pub returned : Stored
-  returned = afterFree (storedAfter (afterInit arena words p) before) lent o x
-
+-- After a making that is not refused, and a list of calls:
+module _ (arena words : List ℕ) (p : Plan) (done : init arena words p ≡ made.Done) (before : List Call) where
   abbrev c : Config
   c = initConfig arena words p
 
@@ -155,21 +154,82 @@ module _ (arena words : List ℕ) (p : Plan) (done : init arena words p ≡ made
   stored : storedAfter (afterInit arena words p) before ≡ store c h
   stored = ap (λ (s : Stored). storedAfter s before) (init-leaves arena words p done) ∙ stored-after c ranged fresh before (fresh-kept c ranged)
 
-  left : returned ≡ store c (byRules c h (return lent o x) .1)
-  left = ap (λ (s : Stored). afterFree s lent o x) stored ∙ leaves-same c h kept ranged (return lent o x)
+  -- a multiple of 16 in the arena whose granule no live block has gets 17 for as long as nothing is lent over it.
+  pub free-gets-17 : (since : List Call) (y : ℕ) → y % 16 ≡ 0 → y / 16 < initConfig arena words p .granules
+      → blockOver (y / 16) (stateAfter (initConfig arena words p) before .blocks) ≡ none
+      → Gets17 (initConfig arena words p) (storedAfter (afterInit arena words p) before) since y
+  free-gets-17 since y aligned inside e = subst (λ (s : Stored). Gets17 c s since y) (sym stored) (free-17 c ranged h kept since y aligned inside e)
 
-  held : rules.free true c h lent o x ≡ freed.Bytes k
-  held = sym (answers-same c h kept ranged (return lent o x)) ∙ ap (λ (s : Stored). free s lent o x) (sym stored) ∙ granted
+  -- Then a free by o of the block at x, handed these bytes, answers k, and another list follows:
+  module _ (bytes : List ℕ) (o x k : ℕ) (granted : free (storedAfter (afterInit arena words p) before) bytes o x ≡ freed.Bytes k) (since : List Call) where
+    left : afterFree (storedAfter (afterInit arena words p) before) bytes o x ≡ store c (byRules c h (return bytes o x) .1)
+    left = ap (λ (s : Stored). afterFree s bytes o x) stored ∙ leaves-same c h kept ranged (return bytes o x)
 
-  -- A multiple of 16 in the block's place gets 17 while nothing is lent over its granule.
-  pub freed-gets-17 : (y : ℕ) → x ≤ y → y < x + k → y % 16 ≡ 0 → Gets17 (initConfig arena words p) returned since y
-  freed-gets-17 y low high aligned = subst (λ (s : Stored). Gets17 c s since y) (sym left) (returned-17 c ranged h kept lent o x k held since y low high aligned)
+    held : rules.free true c h bytes o x ≡ freed.Bytes k
+    held = sym (answers-same c h kept ranged (return bytes o x)) ∙ ap (λ (s : Stored). free s bytes o x) (sym stored) ∙ granted
 
-  -- So a second return of the offset gets 17 while its place is free.
-  pub second-free : Gets17 (initConfig arena words p) returned since x
-  second-free = let f = at-first c ranged h kept lent o x k held in freed-gets-17 x (omega arith) (f .0) (f .1)
+    -- each multiple of 16 in the block's place gets 17 for as long as nothing is lent over its granule,
+    pub freed-gets-17 : (y : ℕ) → x ≤ y → y < x + k → y % 16 ≡ 0
+        → Gets17 (initConfig arena words p) (afterFree (storedAfter (afterInit arena words p) before) bytes o x) since y
+    freed-gets-17 y low high aligned = subst (λ (s : Stored). Gets17 c s since y) (sym left) (returned-17 c ranged h kept bytes o x k held since y low high aligned)
 
--- On the heap of P5 to P13 owners 1 and 2 are lent a granule each, at 0 and 16, and owner 1 returns its own; then it is lent 32 bytes, at 32. It returns 0 again.
-pub twice : free (storedAfter (afterFree (storedAfter small (alloc 1 16 ∷ alloc 2 16 ∷ [])) arena 1 0) (alloc 1 32 ∷ [])) arena 1 0 ≡ freed.Refused refusal.FreeMemory
+    -- and so does x itself: a second free gets 17 while its place is free.
+    pub second-free : Gets17 (initConfig arena words p) (afterFree (storedAfter (afterInit arena words p) before) bytes o x) since x
+    second-free = let f = at-first c ranged h kept bytes o x k held in freed-gets-17 x (omega arith) (f .0) (f .1)
+
+-- The same of what the functions do, each keeping its promise: a making that is not refused, calls with their answers, a free of the block at x that answers k,
+-- and calls whose answers lend nothing over the granule of x; the next free of x answers 17.
+pub second-free-performed : (arena words : List ℕ) (p : Plan) (out : Initialized) (arenaLeft wordsLeft : List ℕ) → InitDone arena words p out arenaLeft wordsLeft → out .made ≡ made.Done
+    → (es : List Entry) (s : Stored) → Performed (handed (out .heap) wordsLeft) es s
+    → (bytes : List ℕ) (o x k : ℕ) (t : Stored) → Promised s (return bytes o x) (freed.Bytes k) t
+    → (ds : List Entry) (u : Stored) → Performed t ds u → nothingLent (initConfig arena words p) (x / 16) ds ≡ true
+    → (again : List ℕ) (owner : ℕ) → hasRecordedLength (initConfig arena words p) again ≡ true → isOwner owner ≡ true
+    → (r : Freed) (v : Stored) → Promised u (return again owner x) r v → r ≡ freed.Refused refusal.FreeMemory
+second-free-performed arena words p out arenaLeft wordsLeft d done es s run bytes o x k t f ds u more n again owner whole known r v g =
+    let c : Config = initConfig arena words p in
+    let made : handed (out .heap) wordsLeft ≡ afterInit arena words p = λ i. record { heap = d .heap i; words = d .table i } in
+    let before : s ≡ storedAfter (afterInit arena words p) (callsOf es) =
+    performed (handed (out .heap) wordsLeft) es s run .1 ∙ ap (λ (w : Stored). storedAfter w (callsOf es)) made in
+    let one : (freed.Bytes k ≡ free s bytes o x) × (t ≡ afterFree s bytes o x) = promised s (return bytes o x) (freed.Bytes k) t f in
+    let granted : free (storedAfter (afterInit arena words p) (callsOf es)) bytes o x ≡ freed.Bytes k = ap (λ (w : Stored). free w bytes o x) (sym before) ∙ sym (one .0) in
+    let left : t ≡ afterFree (storedAfter (afterInit arena words p) (callsOf es)) bytes o x = one .1 ∙ ap (λ (w : Stored). afterFree w bytes o x) before in
+    let then : (ds ≡ history execute t (callsOf ds)) × (u ≡ storedAfter t (callsOf ds)) = performed t ds u more in
+    let gets : Gets17 c t (callsOf ds) x =
+    subst (λ (w : Stored). Gets17 c w (callsOf ds) x) (sym left) (second-free arena words p (sym (d .answer) ∙ done) (callsOf es) bytes o x k granted (callsOf ds)) in
+    let unlent : nothingLent c (x / 16) (history execute t (callsOf ds)) ≡ true = ap (λ (es : List Entry). nothingLent c (x / 16) es) (sym (then .0)) ∙ n in
+    promised u (return again owner x) r v g .0 ∙ ap (λ (w : Stored). free w again owner x) (then .1) ∙ gets unlent again owner whole known .0
+
+-- On the heap of P5 to P13 owner 1 is lent 48 bytes at 0, owner 2 16 at 64 and owner 1 32 at 80; owner 1 frees 0.
+abbrev lent : List Call
+lent = alloc 1 40 ∷ alloc-aligned 2 16 32 ∷ alloc 1 17 ∷ []
+
+abbrev afterwards : Stored
+afterwards = afterFree (storedAfter small lent) arena 1 0
+
+-- An ask is refused, owner 2 is lent 32 bytes at 0, and there is an enquiry.
+abbrev since : List Call
+since = alloc 2 33 ∷ alloc-aligned 2 32 64 ∷ totals ∷ []
+
+lent-48 : free (storedAfter small lent) arena 1 0 ≡ freed.Bytes 48
 unfolding valid allocOrder freeOrder initOrder
-twice = second-free arena (replicate 32 0) plan refl (alloc 1 16 ∷ alloc 2 16 ∷ []) arena 1 0 16 refl (alloc 1 32 ∷ []) refl arena 1 refl refl .0
+lent-48 = refl
+
+-- So granule 1 was lent over, granule 2 was not,
+pub over-1 : nothingLent (initConfig arena (replicate 32 0) plan) 1 (history execute afterwards since) ≡ false
+unfolding valid allocOrder freeOrder initOrder
+over-1 = refl
+
+pub not-over-2 : nothingLent (initConfig arena (replicate 32 0) plan) 2 (history execute afterwards since) ≡ true
+unfolding valid allocOrder freeOrder initOrder
+not-over-2 = refl
+
+-- and 32 gets 17 from owner 1.
+pub at-32 : free (storedAfter afterwards since) arena 1 32 ≡ freed.Refused refusal.FreeMemory
+unfolding initOrder
+at-32 =
+    freed-gets-17 arena (replicate 32 0) plan refl lent arena 1 0 48 lent-48 since 32 (omega arith) (omega arith) refl not-over-2 arena 1 refl refl .0
+
+-- A second free of 0 at once gets 17.
+pub at-once : free afterwards arena 1 0 ≡ freed.Refused refusal.FreeMemory
+unfolding initOrder
+at-once = second-free arena (replicate 32 0) plan refl lent arena 1 0 48 lent-48 [] refl arena 1 refl refl .0

@@ -21,7 +21,8 @@ use Rattle.model.proofs.Offsets.{granule-in, over-at}
 use Rattle.model.proofs.Refusing.{NoReason, no-reason}
 use Rattle.model.proofs.Released.{Released, released as not-refused}
 use Rattle.model.proofs.Kept.{Kept, keep-others, returned-free}
-use Rattle.model.proofs.Laws.{free-asks, size-asks, block-inside}
+use Rattle.model.proofs.Laws.{block-inside}
+use Rattle.model.proofs.Asked.{free-asks, size-asks}
 use Rattle.segments.specs.Rows.{segmentAt, segmentsIn, blocksIn, Rewritten}
 use Rattle.segments.specs.Search.{RowOf}
 use Rattle.segments.specs.Changes.{released}
@@ -30,7 +31,7 @@ use Rattle.segments.proofs.Releasing.{release-rows}
 use Rattle.heap.specs.Stored.{Stored, handed, store, configOf, stateIn}
 use Rattle.heap.specs.Valid.{valid}
 use Rattle.heap.specs.Promises.{FreeDone, BlockSizeDone}
-use Rattle.heap.specs.Steps.{offsetOrder, LookedUp, updatedOf}
+use Rattle.heap.specs.Steps.{segmentOrder, LookedUp, updatedOf}
 use Rattle.heap.proofs.Conditions.{valid-conditions}
 use Rattle.heap.proofs.ValidStored.{valid-map, valid-kept}
 use Rattle.heap.proofs.Changing.{bounds, stored-changed}
@@ -73,7 +74,7 @@ module _ (r : Heap) (ws : List ℕ) (o x : ℕ) where
 
   -- In a valid heap the row with the granule of byte x, read as s, says what an owner's offset gets.
   module _ (v : valid r ws ≡ true) (known : isOwner o ≡ true) (i : ℕ) (w : RowOf (r .rows) (x / 16) ws i) (s : Segment) (e : s ≡ segmentAt ws i) where
-    -- in the arena, the block over the granule is s if that is live, and there is none else
+    -- in the arena, the block over the granule is s if that is live, and else there is none
     over : leb (16 * r .granules) x ≡ false → blockOver (x / 16) blocks ≡ choose (isLive s) (some s) none
     over p =
         over-row (configOf r) (r .rows) ws (x / 16) i (valid-map r ws v) (omega tests) w
@@ -86,7 +87,8 @@ module _ (r : Heap) (ws : List ℕ) (o x : ℕ) where
         let g = granule-in (x / 16) s (first-some (hasGranule (x / 16)) blocks s b) in
         over-at (configOf r) x blocks s (valid-kept r ws v .ordered) b (omega tests)
 
-    asked : firstReason lookOrder ≡ firstReason (offsetOrder s (16 * r .granules) o x)
+    -- so s and the arena's length decide
+    asked : firstReason lookOrder ≡ firstReason (segmentOrder s (16 * r .granules) o x)
     asked =
         rw known
         (split (leb (16 * r .granules) x)
@@ -100,12 +102,12 @@ module _ (r : Heap) (ws : List ℕ) (o x : ℕ) where
         rw (f, b) (split (ltb (s .start) (x / 16)) (λ l. rw l) (λ l. rw (l, begun p a f l))))))
         (λ a. rw a))))
 
-    pub offset-refused : (why : Refusal) → firstReason (offsetOrder s (16 * r .granules) o x) ≡ some why → firstReason lookOrder ≡ some why
+    pub offset-refused : (why : Refusal) → firstReason (segmentOrder s (16 * r .granules) o x) ≡ some why → firstReason lookOrder ≡ some why
     offset-refused why q = asked ∙ q
 
-    pub offset-passed : firstReason (offsetOrder s (16 * r .granules) o x) ≡ none → LookedUp lookOrder r ws x (lookup.Row i)
+    pub offset-passed : firstReason (segmentOrder s (16 * r .granules) o x) ≡ none → LookedUp lookOrder r ws x (lookup.Row i)
     offset-passed q =
-        let n : NoReason (offsetOrder s (16 * r .granules) o x) = no-reason (offsetOrder s (16 * r .granules) o x) q in
+        let n : NoReason (segmentOrder s (16 * r .granules) o x) = no-reason (segmentOrder s (16 * r .granules) o x) q in
         (asked ∙ q, record { inUse = w .inUse; block = begun (n .0) (not-false (eqb (x % 16) 0) (n .1 .0)) (n .1 .1 .0) (n .1 .1 .1 .0) ∙ ap some e })
 
   -- The enquiry for a block's size: refused, and of what was found in a valid heap.

@@ -67,9 +67,9 @@ abbrev pub Decided : Order Refusal → Heap → List ℕ → ℕ → ℕ → Pla
 Decided order r ws n a (place.Refused why) = firstReason order ≡ some why
 Decided order r ws n a (place.At row start) = (firstReason order ≡ none) × Lowest r ws n a row start
 
--- What owner o's offset x is asked with the segment that has its granule, and the arena's bytes: 15, 16, 17, 9, 10.
-abbrev pub offsetOrder : Segment → ℕ → ℕ → ℕ → Order Refusal
-offsetOrder s bytes o x =
+-- What is asked of owner o's offset x, given the arena's bytes and, if x is in the arena, the segment that has its granule: 15, 16, 17, 9, 10.
+abbrev pub segmentOrder : Segment → ℕ → ℕ → ℕ → Order Refusal
+segmentOrder s bytes o x =
     (leb bytes x, refusal.PastEnd)
     ∷ notAligned x
     ∷ (isFree s, refusal.FreeMemory)

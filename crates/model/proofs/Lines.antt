@@ -8,6 +8,7 @@ use Rattle.model.specs.Quantities.{Config}
 use Rattle.model.specs.Allocation.{State}
 use Rattle.model.specs.Orders.{Order, allocOrder, freeOrder, initOrder, blockSizeOrder, totalsOrder, holdingOrder}
 use Rattle.model.specs.Numbers.{numberOf, initNumberOf}
+use Rattle.model.proofs.Refinement.{freeOrder01, blockSizeOrder01}
 use Rattle.model.specs.declared.Plan.{Plan}
 
 -- The numbers of an order.
@@ -45,3 +46,10 @@ module _ (v : Bool) (c : Config) (h : State) (arena words : List ℕ) (p : Plan)
   pub holding-line : line numberOf (holdingOrder v o) ≡ 1 ∷ 2 ∷ []
   unfolding holdingOrder
   holding-line = refl
+
+  -- For a return and for a block's size, as document 01 has them by itself.
+  pub free-line-01 : line numberOf (freeOrder01 v c h arena o x) ≡ 1 ∷ 11 ∷ 2 ∷ 9 ∷ 10 ∷ []
+  free-line-01 = refl
+
+  pub block-size-line-01 : line numberOf (blockSizeOrder01 v c h o x) ≡ 1 ∷ 2 ∷ 9 ∷ 10 ∷ []
+  block-size-line-01 = refl

@@ -2,17 +2,17 @@
 -- Assumes nothing.
 use mathlib.Core.Path.{_≡_, refl, sym, ap, _∙_, subst}
 use mathlib.Core.Bool.{Bool, true, false, not}
-use mathlib.Core.List.{List, [], _∷_}
+use mathlib.Core.List.{List, [], _∷_, List·Memᴰ, List·Memᴰ·head, List·Memᴰ·tail}
 use mathlib.Core.Option.{none, some}
 use Prim.Native.Nat.{ℕ, _+_, _/_, _%_, _≤_, _<_}
 use native.Mathlib.Omega.{arith}
 use lib.Dec.{leb, ltb, eqb}
 use borrow.Author.Tests.{lt-ltb, le-leb, lt-leb, le-ltb}
-use Rattle.model.specs.Choose.{only}
+use Rattle.model.specs.Choose.{every, only, isNone}
 use Rattle.model.specs.Quantities.{Config}
-use Rattle.model.specs.Allocation.{insert, offset, blockAt, hasGranule, blockOver, without}
+use Rattle.model.specs.Allocation.{clearOf, insert, offset, blockAt, hasGranule, blockOver, without}
 use Rattle.model.proofs.Choosing.{split, splitOption, clash, tests, ne-of-eqb, first-some}
-use Rattle.model.proofs.Ordered.{Ordered, long, only-ordered}
+use Rattle.model.proofs.Ordered.{Live, Ordered, long, only-ordered, before-clear, after-clear}
 use Rattle.model.specs.declared.Segment.{Segment}
 
 not-some : {A : Type 0} (a : A) → some a ≡ none → ⊥
@@ -126,3 +126,35 @@ module _ (c : Config) where
       (only-ordered c (λ (b : Segment). not (eqb (offset b) x)) (d .start + d .length) bs (o .2))))
       (λ q. let r : Begins c (d .start + d .length) x bs b = begins (d .start + d .length) x bs b (o .2) (rw q at e) in
       rw (q, granule-after i d (omega (arith, r .from, granule-in i b h))) (over-without (d .start + d .length) x i bs b (o .2) (rw q at e) h))
+
+-- a live block, among those from granule s on
+pub record Member (c : Config) (s : ℕ) (b : Segment) : Type 0 where
+  pub from : s ≤ b .start
+  pub inside : b .start + b .length ≤ c .granules
+  pub live : Live c b
+
+module _ (c : Config) where
+  pub member : (s : ℕ) (bs : List Segment) (b : Segment) → Ordered c s bs → List·Memᴰ b bs → Member c s b
+  member s bs b o (List·Memᴰ·head {x = x} {xs = ys} q) =
+      subst (Member c s) (sym q) (record { from = o .0; inside = in-arena c (x .start + x .length) ys (o .2); live = o .1 })
+  member s bs b o (List·Memᴰ·tail {x = x} {xs = ys} m) =
+      let r : Member c (x .start + x .length) b = member (x .start + x .length) ys b (o .2) m in
+      record { from = omega (arith, r .from); inside = r .inside; live = r .live }
+
+  -- The live block that has granule i is the block over it.
+  pub over-live : (s i : ℕ) (bs : List Segment) (b : Segment) → Ordered c s bs → List·Memᴰ b bs → hasGranule i b ≡ true → blockOver i bs ≡ some b
+  over-live s i bs b o (List·Memᴰ·head {x = x} {xs = ys} q) h =
+      let z : hasGranule i x ≡ true = subst (λ (k : Segment). hasGranule i k ≡ true) q h in rw z (ap some (sym q))
+  over-live s i bs b o (List·Memᴰ·tail {x = x} {xs = ys} m) h =
+      let r : Member c (x .start + x .length) b = member (x .start + x .length) ys b (o .2) m in
+      rw (granule-after i x (omega (arith, r .from, granule-in i b h))) (over-live (x .start + x .length) i ys b (o .2) m h)
+
+  -- No live block has granule i exactly if one granule at i is clear of all of them.
+  pub over-clear : (s i : ℕ) (bs : List Segment) → Ordered c s bs → isNone (blockOver i bs) ≡ every (clearOf i 1) bs
+  over-clear s i [] o = refl
+  over-clear s i (b ∷ bs) o =
+      split (leb (b .start) i)
+      (λ p. split (ltb i (b .start + b .length))
+      (λ q. rw (in-granule i b (omega tests) (omega tests), lt-leb (i + 1) (b .start) (omega tests), lt-leb (b .start + b .length) i (omega tests)))
+      (λ q. rw (p, q, after-clear i 1 b (omega tests)) (over-clear (b .start + b .length) i bs (o .2))))
+      (λ p. rw (p, before-clear i 1 b (omega tests)) (over-clear (b .start + b .length) i bs (o .2)))

@@ -1,4 +1,4 @@
--- Document 01's "Rules of lending", but for the arena's bytes: what a size needs, the set of live blocks, first fit by address, used, free and peak; and what an owner has of them.
+-- Document 01's "Rules of lending", but for the arena's bytes: what a size needs, the set of live blocks, first fit by address, which block is at a byte or has a granule, used, free and peak; and what an owner has of them.
 -- Assumes nothing.
 use Prim.Native.Nat.{ℕ, _+_, _-_, _*_, _/_, _%_, max}
 use mathlib.Core.Bool.{Bool, not}

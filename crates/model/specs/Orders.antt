@@ -1,4 +1,4 @@
--- Documents 01's and 02's orders of refusal, each as one list to lay beside its line, and 01's "proper" and "within limits".
+-- The orders of refusal of documents 01 and 02, each as one list to lay beside its line, and 01's "proper" and "within limits".
 -- Assumes nothing.
 use Prim.Native.Nat.{ℕ}
 use mathlib.Core.Bool.{Bool}
@@ -16,6 +16,11 @@ use Rattle.model.specs.declared.InitRefusal.{InitRefusal}
 abbrev pub Order : Type 0 → Type 0
 Order R = List (Reason R)
 
+-- For an owner's offset, wherever it is asked of one: 15, 16, 17, 9, 10.
+abbrev pub offsetOrder : Config → State → ℕ → ℕ → Order Refusal
+offsetOrder c h o x =
+    pastEnd c x ∷ notAligned x ∷ freeMemory (h .blocks) x ∷ insideBlock (h .blocks) x ∷ otherOwner (h .blocks) o x ∷ []
+
 -- A call on a heap is told whether the record and the table are a valid heap, what that was made with, and its state.
 module _ (isValid : Bool) (c : Config) (h : State) where
   -- For an allocation: 1, 2, 3, 4, 5, 6, 7, 8.
@@ -31,23 +36,15 @@ module _ (isValid : Bool) (c : Config) (h : State) where
       ∷ tableFull c (h .blocks) (fit c (h .blocks) o n a)
       ∷ []
 
-  -- For a free: 1, 11, 2, 15, 16, 17, 9, 10.
+  -- For a free: 1, 11, 2, then those of the offset: 15, 16, 17, 9, 10.
   unfoldable pub freeOrder : List ℕ → ℕ → ℕ → Order Refusal
   freeOrder arena o x =
-      invalidHeap isValid
-      ∷ otherArena c arena
-      ∷ badOwner o
-      ∷ pastEnd c x
-      ∷ notAligned x
-      ∷ freeMemory (h .blocks) x
-      ∷ insideBlock (h .blocks) x
-      ∷ otherOwner (h .blocks) o x
-      ∷ []
+      invalidHeap isValid ∷ otherArena c arena ∷ badOwner o ∷ offsetOrder c h o x
 
-  -- For a block's size: 1, 2, 15, 16, 17, 9, 10.
+  -- For a block's size: 1, 2, then 15, 16, 17, 9, 10.
   unfoldable pub blockSizeOrder : ℕ → ℕ → Order Refusal
   blockSizeOrder o x =
-      invalidHeap isValid ∷ badOwner o ∷ pastEnd c x ∷ notAligned x ∷ freeMemory (h .blocks) x ∷ insideBlock (h .blocks) x ∷ otherOwner (h .blocks) o x ∷ []
+      invalidHeap isValid ∷ badOwner o ∷ offsetOrder c h o x
 
 -- For making: 11, 12, 13.
 unfoldable pub initOrder : List ℕ → List ℕ → Plan → Order InitRefusal
@@ -84,5 +81,4 @@ placeOrder c h o n a = noPlace (fit c (h .blocks) o n a) ∷ tableFull c (h .blo
 
 -- 2, 15, 16, 17, 9 and 10 are the last of a free's order and of a block size's: what is asked of an owner and an offset.
 abbrev pub blockOrder : Config → State → ℕ → ℕ → Order Refusal
-blockOrder c h o x =
-    badOwner o ∷ pastEnd c x ∷ notAligned x ∷ freeMemory (h .blocks) x ∷ insideBlock (h .blocks) x ∷ otherOwner (h .blocks) o x ∷ []
+blockOrder c h o x = badOwner o ∷ offsetOrder c h o x

@@ -1,4 +1,4 @@
--- Document 01's "Numbers that say no", 1 to 13, and document 02's: when each applies. (14 is the script program's.)
+-- Document 01's "Numbers that say no", 1 to 13, and document 02's 15 to 17: when each applies. (14 is the script program's.)
 -- Assumes nothing.
 use Prim.Native.Nat.{ℕ, _+_, _*_, _/_, _%_}
 use mathlib.Core.Bool.{Bool, false, not}
@@ -62,7 +62,7 @@ pastEnd c x = (leb (16 * c .granules) x, refusal.PastEnd)
 abbrev pub notAligned : ℕ → Reason Refusal
 notAligned x = (not (eqb (x % 16) 0), refusal.NotAligned)
 
--- 17: it is in free memory, as no live block has its granule.
+-- 17: it is in free memory: no live block has its granule.
 abbrev pub freeMemory : List Segment → ℕ → Reason Refusal
 freeMemory bs x = (isNone (blockOver (x / 16) bs), refusal.FreeMemory)
 

@@ -1,4 +1,4 @@
--- `heap::find_row` meets its contract: the row with the granule of the offset says what that gets.
+-- `heap::find_row` meets its contract: the row with the granule of the offset says what the offset gets.
 -- Assumes nothing.
 use mathlib.Core.Path.{sym, ap, _∙_}
 use native.Mathlib.Omega.{arith}

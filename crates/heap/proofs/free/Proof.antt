@@ -7,8 +7,8 @@ use Rattle.heap.proofs.Freeing.{row-words, row-bytes, free-not, free-fo
 use Rattle.heap.proofs.free.Statement.{statement}
 use Rattle.heap.proofs.free.Tie as tie
 
-find-freed-requires : tie.Need-find-freed-requires
-find-freed-requires c κs = search needs
+find-block-requires : tie.Need-find-block-requires
+find-block-requires c κs = search needs
 
 enum-known-found : tie.Need-enum-known-found
 enum-known-found c = search needs
@@ -19,13 +19,13 @@ enum-known-found-2 c = search needs
 row-requires : tie.Need-row-requires
 row-requires c κs =
     let t = c .before .before in
-    let f = free-found _ _ _ _ _ _ (t .before .before .find-freed .ensures) _ (t .found2 .given .1) in
+    let f = free-found _ _ _ _ _ _ (t .before .before .find-block .ensures) _ (t .found2 .given .1) in
     row-words _ _ (f .0) _ (f .1)
 
 mul-bytes : tie.Need-mul-bytes
 mul-bytes c =
     let t = c .before .before .before .before in
-    let f = free-found _ _ _ _ _ _ (t .before .before .find-freed .ensures) _ (t .found2 .given .1) in
+    let f = free-found _ _ _ _ _ _ (t .before .before .find-block .ensures) _ (t .found2 .given .1) in
     omega (arith, row-bytes _ _ (f .0) _ (f .1) _ (c .before .row .ensures))
 
 cast-fill : tie.Need-cast-fill
@@ -35,7 +35,7 @@ fill-requires : tie.Need-fill-requires
 fill-requires c κs =
     let w = c .before .before in
     let t = w .before .before .before in
-    free-inside _ _ _ _ _ _ (t .before .before .find-freed .ensures) _ (t .found2 .given .1) _ (w .row .ensures)
+    free-inside _ _ _ _ _ _ (t .before .before .find-block .ensures) _ (t .found2 .given .1) _ (w .row .ensures)
 
 cast-release-row : tie.Need-cast-release-row
 cast-release-row c = search needs
@@ -43,7 +43,7 @@ cast-release-row c = search needs
 release-row-requires : tie.Need-release-row-requires
 release-row-requires c κs =
     let t = c .before .before .before .before .before .before .before .before .before .before in
-    let f = free-found _ _ _ _ _ _ (t .before .before .find-freed .ensures) _ (t .found2 .given .1) in
+    let f = free-found _ _ _ _ _ _ (t .before .before .find-block .ensures) _ (t .found2 .given .1) in
     let b = bounds _ _ (f .0) in
     (omega (arith, f .1), omega (arith, b .words, b .rowsMost), omega (arith, b .whole))
 
@@ -51,12 +51,12 @@ sub-updated : tie.Need-sub-updated
 sub-updated c =
     let w = c .before .before .before .before .before .before .before .before .before .before .before .before in
     let t = w .before .before .before in
-    omega (arith, free-left _ _ _ _ _ _ (t .before .before .find-freed .ensures) _ (t .found2 .given .1) _ (w .row .ensures))
+    omega (arith, free-left _ _ _ _ _ _ (t .before .before .find-block .ensures) _ (t .found2 .given .1) _ (w .row .ensures))
 
 updated-requires : tie.Need-updated-requires
 updated-requires c κs =
     let t = c .before .before .before .before .before .before .before .before .before .before .before .before .before .before .before in
-    omega (arith, free-rows _ _ _ _ _ _ (t .before .before .find-freed .ensures) _ (t .found2 .given .1) _ _ (c .before .before .before .before .release-row .ensures))
+    omega (arith, free-rows _ _ _ _ _ _ (t .before .before .find-block .ensures) _ (t .found2 .given .1) _ _ (c .before .before .before .before .release-row .ensures))
 
 same-length : tie.Need-same-length
 same-length c = search needs
@@ -67,7 +67,7 @@ same-length-2 c = search needs
 returns : tie.Need-returns
 returns c =
     let t = c .before in
-    free-not _ _ _ _ _ _ (t .before .before .find-freed .ensures) _ (t .found .given .1)
+    free-not _ _ _ _ _ _ (t .before .before .find-block .ensures) _ (t .found .given .1)
 
 same-length-3 : tie.Need-same-length-3
 same-length-3 c = search needs
@@ -79,14 +79,14 @@ returns-2 : tie.Need-returns-2
 returns-2 c =
     let w = c .before .before .before .before .before .before .before .before .before .before .before .before .before in
     let t = w .before .before .before in
-    free-row _ _ _ _ _ _ (t .before .before .find-freed .ensures) _ (t .found2 .given .1) _ (w .row .ensures) _ _ (c .before .before .before .before .before .release-row .ensures)
-    _ _ (c .updated .ensures) (omega (arith, free-left _ _ _ _ _ _ (t .before .before .find-freed .ensures) _ (t .found2 .given .1) _ (w .row .ensures))) _ (omega arith) _ _ (c .before .before .before .before .before .before .before .before .before .before .fill .ensures) (omega arith)
+    free-row _ _ _ _ _ _ (t .before .before .find-block .ensures) _ (t .found2 .given .1) _ (w .row .ensures) _ _ (c .before .before .before .before .before .release-row .ensures)
+    _ _ (c .updated .ensures) (omega (arith, free-left _ _ _ _ _ _ (t .before .before .find-block .ensures) _ (t .found2 .given .1) _ (w .row .ensures))) _ (omega arith) _ _ (c .before .before .before .before .before .before .before .before .before .before .fill .ensures) (omega arith)
 
 pub free-spec : {M : Type 1} → statement M
 free-spec =
     tie.close
     (tie.spec
-    find-freed-requires
+    find-block-requires
     enum-known-found
     enum-known-found-2
     row-requires

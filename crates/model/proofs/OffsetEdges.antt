@@ -10,9 +10,9 @@ use Rattle.model.specs.Choose.{every}
 use Rattle.model.specs.Quantities.{Config}
 use Rattle.model.specs.Allocation.{State, block}
 use Rattle.model.specs.Orders.{blockOrder}
-use Rattle.model.proofs.ToldApart.{refusalNumber}
+use Rattle.model.proofs.Refinement.{refusalNumber}
 
--- 128 bytes.
+-- A heap of 128 bytes, with 8 rows, and quotas of 8 granules and 8 blocks.
 abbrev small : Config
 small = record { granules = 8; capacity = 8; granuleQuotas = replicate 8 8; blockQuotas = replicate 8 8 }
 
@@ -24,6 +24,7 @@ held = record { blocks = block small 1 40 0 ∷ block small 2 16 4 ∷ block sma
 pub data Edge : Type 0 where
   edge : (owner offset number : ℕ) → Edge
 
+-- The table.
 abbrev pub edges : List Edge
 edges =
     edge 1 0 0

@@ -1,4 +1,4 @@
--- `heap::find_freed` meets its contract: after 1 and 11 the rest of its order is that of `find_row`.
+-- `heap::find_block` meets its contract: after 1 and 11 the rest of its order is that of `find_row`.
 -- Assumes nothing.
 use mathlib.Core.Path.{sym, _∙_}
 use Prim.Native.Nat.{_*_}
@@ -8,8 +8,8 @@ use borrow.Author.Needs.{needs}
 use borrow.Author.Tests.{not-true, not-false, ne-eqb}
 use Rattle.model.specs.Orders.{freeOrder}
 use Rattle.heap.proofs.Freeing.{free-decided}
-use Rattle.heap.proofs.find_freed.Statement.{statement}
-use Rattle.heap.proofs.find_freed.Tie as tie
+use Rattle.heap.proofs.find_block.Statement.{statement}
+use Rattle.heap.proofs.find_block.Tie as tie
 
 is-valid-requires : tie.Need-is-valid-requires
 is-valid-requires c κs = search needs
@@ -37,7 +37,7 @@ returns-3 : tie.Need-returns-3
 returns-3 c =
     free-decided _ _ _ _ _ (sym (c .before .before .before .before .is-valid .ensures) ∙ not-false _ (c .before .before .before .if1 .left)) (omega arith) (c .find-row .result) (c .find-row .ensures)
 
-pub find-freed-spec : {M : Type 1} → statement M
-find-freed-spec =
+pub find-block-spec : {M : Type 1} → statement M
+find-block-spec =
     tie.close
     (tie.spec is-valid-requires returns cast-if2 mul-if2 returns-2 find-row-requires returns-3)
