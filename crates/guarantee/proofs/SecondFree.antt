@@ -200,36 +200,36 @@ second-free-performed arena words p out arenaLeft wordsLeft d done es s run byte
     promised u (return again owner x) r v g .0 ∙ ap (λ (w : Stored). free w again owner x) (then .1) ∙ gets unlent again owner whole known .0
 
 -- On the heap of P5 to P13 owner 1 is lent 48 bytes at 0, owner 2 16 at 64 and owner 1 32 at 80; owner 1 frees 0.
-abbrev lent : List Call
-lent = alloc 1 40 ∷ alloc-aligned 2 16 32 ∷ alloc 1 17 ∷ []
+abbrev calls : List Call
+calls = alloc 1 40 ∷ alloc-aligned 2 16 32 ∷ alloc 1 17 ∷ []
 
-abbrev afterwards : Stored
-afterwards = afterFree (storedAfter small lent) arena 1 0
+abbrev onceFreed : Stored
+onceFreed = afterFree (storedAfter small calls) arena 1 0
 
 -- An ask is refused, owner 2 is lent 32 bytes at 0, and there is an enquiry.
-abbrev since : List Call
-since = alloc 2 33 ∷ alloc-aligned 2 32 64 ∷ totals ∷ []
+abbrev laterCalls : List Call
+laterCalls = alloc 2 33 ∷ alloc-aligned 2 32 64 ∷ totals ∷ []
 
-lent-48 : free (storedAfter small lent) arena 1 0 ≡ freed.Bytes 48
+lent-48 : free (storedAfter small calls) arena 1 0 ≡ freed.Bytes 48
 unfolding valid allocOrder freeOrder initOrder
 lent-48 = refl
 
 -- So granule 1 was lent over, granule 2 was not,
-pub over-1 : nothingLent (initConfig arena (replicate 32 0) plan) 1 (history execute afterwards since) ≡ false
+pub over-1 : nothingLent (initConfig arena (replicate 32 0) plan) 1 (history execute onceFreed laterCalls) ≡ false
 unfolding valid allocOrder freeOrder initOrder
 over-1 = refl
 
-pub not-over-2 : nothingLent (initConfig arena (replicate 32 0) plan) 2 (history execute afterwards since) ≡ true
+pub not-over-2 : nothingLent (initConfig arena (replicate 32 0) plan) 2 (history execute onceFreed laterCalls) ≡ true
 unfolding valid allocOrder freeOrder initOrder
 not-over-2 = refl
 
--- and 32 gets 17 from owner 1.
-pub at-32 : free (storedAfter afterwards since) arena 1 32 ≡ freed.Refused refusal.FreeMemory
+-- and a free of 32 by owner 1 gets 17.
+pub at-32 : free (storedAfter onceFreed laterCalls) arena 1 32 ≡ freed.Refused refusal.FreeMemory
 unfolding initOrder
 at-32 =
-    freed-gets-17 arena (replicate 32 0) plan refl lent arena 1 0 48 lent-48 since 32 (omega arith) (omega arith) refl not-over-2 arena 1 refl refl .0
+    freed-gets-17 arena (replicate 32 0) plan refl calls arena 1 0 48 lent-48 laterCalls 32 (omega arith) (omega arith) refl not-over-2 arena 1 refl refl .0
 
 -- A second free of 0 at once gets 17.
-pub at-once : free afterwards arena 1 0 ≡ freed.Refused refusal.FreeMemory
+pub at-once : free onceFreed arena 1 0 ≡ freed.Refused refusal.FreeMemory
 unfolding initOrder
-at-once = second-free arena (replicate 32 0) plan refl lent arena 1 0 48 lent-48 [] refl arena 1 refl refl .0
+at-once = second-free arena (replicate 32 0) plan refl calls arena 1 0 48 lent-48 [] refl arena 1 refl refl .0

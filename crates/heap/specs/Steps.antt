@@ -67,7 +67,7 @@ abbrev pub Decided : Order Refusal → Heap → List ℕ → ℕ → ℕ → Pla
 Decided order r ws n a (place.Refused why) = firstReason order ≡ some why
 Decided order r ws n a (place.At row start) = (firstReason order ≡ none) × Lowest r ws n a row start
 
--- What is asked of owner o's offset x, given the arena's bytes and, if x is in the arena, the segment that has its granule: 15, 16, 17, 9, 10.
+-- What is asked of owner o's offset x, given the arena's length in bytes and, if x is in the arena, the segment that has its granule: 15, 16, 17, 9, 10.
 abbrev pub segmentOrder : Segment → ℕ → ℕ → ℕ → Order Refusal
 segmentOrder s bytes o x =
     (leb bytes x, refusal.PastEnd)
