@@ -1,16 +1,17 @@
--- No two live blocks share a byte of the arena.
+-- The bytes of a block, and that no two live blocks share one.
 -- Assumes nothing.
 use mathlib.Core.Path.{_≡_, _∙_, sym}
 use mathlib.Core.Bool.{Bool, true}
 use mathlib.Core.List.{List, [], _∷_, List·Memᴰ, List·Memᴰ·head, List·Memᴰ·tail, List·Memᴰ·not-nil, List·Memᴰ·eq-of-singleton}
-use Prim.Native.Nat.{ℕ, _+_, _≤_}
+use Prim.Native.Nat.{ℕ, _+_, _/_, _≤_}
 use native.Mathlib.Omega.{arith}
 use lib.Dec.{leb, ltb}
 use lib.ListN.{length}
 use borrow.Author.Tests.{leb-true}
 use Rattle.model.specs.Choose.{both, only}
 use Rattle.model.specs.Quantities.{Config}
-use Rattle.model.specs.Allocation.{offset, bytes}
+use Rattle.model.specs.Allocation.{offset, hasGranule, bytes}
+use Rattle.model.proofs.Offsets.{in-granule, granule-before, granule-after}
 use Rattle.model.proofs.Choosing.{split, tests, parts, both-left}
 use Rattle.model.proofs.Ordered.{Ordered, none-from}
 use Rattle.model.specs.declared.Segment.{Segment}
@@ -18,6 +19,15 @@ use Rattle.model.specs.declared.Segment.{Segment}
 -- Byte x of the arena lies in the block.
 abbrev pub hasByte : ℕ → Segment → Bool
 hasByte x b = both (leb (offset b) x) (ltb x (offset b + bytes b))
+
+-- A byte lies in a block exactly if the block has its granule.
+pub byte-granule : (i : ℕ) (b : Segment) → hasByte i b ≡ hasGranule (i / 16) b
+byte-granule i b =
+    split (leb (offset b) i)
+    (λ p. split (ltb i (offset b + bytes b))
+    (λ q. rw (p, q, in-granule (i / 16) b (omega tests) (omega tests)))
+    (λ q. rw (p, q, granule-after (i / 16) b (omega tests))))
+    (λ p. rw (p, granule-before (i / 16) b (omega tests)))
 
 -- Each byte of the arena lies in at most one live block.
 pub in-one-block : (c : Config) (x s : ℕ) (bs : List Segment) → Ordered c s bs → length (only (hasByte x) bs) ≤ 1

@@ -3,10 +3,12 @@
 use mathlib.Core.Path.{_≡_, refl}
 use mathlib.Core.Bool.{Bool}
 use mathlib.Core.List.{List, [], _∷_}
-use Prim.Native.Nat.{ℕ}
+use Prim.Native.Nat.{ℕ, _≤_}
+use native.Mathlib.Omega.{arith}
+use borrow.Author.Tests.{ne-eqb}
 use Rattle.model.specs.Quantities.{Config}
 use Rattle.model.specs.Allocation.{State}
-use Rattle.model.specs.Orders.{Order, allocOrder, freeOrder, initOrder, blockSizeOrder, totalsOrder, holdingOrder}
+use Rattle.model.specs.Orders.{Order, allocOrder, freeOrder, reallocOrder, initOrder, blockSizeOrder, totalsOrder, holdingOrder}
 use Rattle.model.specs.Numbers.{numberOf, initNumberOf}
 use Rattle.model.proofs.Refinement.{freeOrder01, blockSizeOrder01}
 use Rattle.model.specs.declared.Plan.{Plan}
@@ -26,6 +28,16 @@ module _ (v : Bool) (c : Config) (h : State) (arena words : List ℕ) (p : Plan)
   pub free-line : line numberOf (freeOrder v c h arena o x) ≡ 1 ∷ 11 ∷ 2 ∷ 15 ∷ 16 ∷ 17 ∷ 9 ∷ 10 ∷ []
   unfolding freeOrder
   free-line = refl
+
+  -- For a resize,
+  pub realloc-line : 1 ≤ n → line numberOf (reallocOrder v c h arena o x n) ≡ 1 ∷ 11 ∷ 2 ∷ 15 ∷ 16 ∷ 17 ∷ 9 ∷ 10 ∷ 6 ∷ 7 ∷ 8 ∷ []
+  unfolding reallocOrder freeOrder
+  realloc-line hn = rw (ne-eqb n 0 (omega arith))
+
+  -- and for one to size 0, which is a return.
+  pub realloc-line-0 : line numberOf (reallocOrder v c h arena o x 0) ≡ 1 ∷ 11 ∷ 2 ∷ 15 ∷ 16 ∷ 17 ∷ 9 ∷ 10 ∷ []
+  unfolding reallocOrder freeOrder
+  realloc-line-0 = refl
 
   -- For making.
   pub init-line : line initNumberOf (initOrder arena words p) ≡ 11 ∷ 12 ∷ 13 ∷ []

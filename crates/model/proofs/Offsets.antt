@@ -76,6 +76,7 @@ pub record Begins (c : Config) (s x : ℕ) (bs : List Segment) (b : Segment) : T
   pub from : s ≤ b .start
   pub inside : b .start + b .length ≤ c .granules
   pub long : 1 ≤ b .length
+  pub live : Live c b
 
 module _ (c : Config) where
   over-none : (s i : ℕ) (bs : List Segment) → i < s → Ordered c s bs → blockOver i bs ≡ none
@@ -98,6 +99,7 @@ module _ (c : Config) where
         from = o .0;
         inside = in-arena (d .start + d .length) bs (o .2);
         long = l;
+        live = o .1;
       }))
       (λ q. let r : Begins c (d .start + d .length) x bs b = begins (d .start + d .length) x bs b (o .2) (rw q at e) in
       record {
@@ -106,6 +108,7 @@ module _ (c : Config) where
         from = omega (arith, r .from);
         inside = r .inside;
         long = r .long;
+        live = r .live;
       })
 
   -- The block over the granule of x, if it begins at x, is the block at x.

@@ -1,4 +1,4 @@
--- Document 01's "Rules of lending", but for the arena's bytes: what a size needs, the set of live blocks, first fit by address, which block is at a byte or has a granule, used, free and peak; and what an owner has of them.
+-- Document 01's "Rules of lending" and document 02's resize, but for the arena's bytes: what a size needs, the set of live blocks, first fit by address, which block is at a byte or has a granule, which block a resize leaves, used, free and peak; and what an owner has of them.
 -- Assumes nothing.
 use Prim.Native.Nat.{ℕ, _+_, _-_, _*_, _/_, _%_, max}
 use mathlib.Core.Bool.{Bool, not}
@@ -78,6 +78,18 @@ blockOver i bs = firstOf (hasGranule i) bs
 -- A return takes the block at x out of the set.
 abbrev pub without : ℕ → List Segment → List Segment
 without x bs = only (λ (b : Segment). not (eqb (offset b) x)) bs
+
+-- A resized block stays if its start has room for its new length beside the other blocks (which lengths those are is in proofs/Staying).
+abbrev pub stays : Config → List Segment → ℕ → ℕ → Bool
+stays c bs x n = room c (without x bs) (needed c n) (x / 16)
+
+-- The resized block is at its own start if it stays, else at the lowest start, aligned to 16, that is clear of all live blocks, itself included, if there is one.
+abbrev pub refit : Config → List Segment → ℕ → ℕ → ℕ → Option Segment
+refit c bs o x n = choose (stays c bs x n) (some (block c o n (x / 16))) (fit c bs o n 16)
+
+-- A resize of the block at x to n bytes leaves this block instead of it: none if n is 0, which makes it a return, or if there is no place.
+abbrev pub resize : Config → List Segment → ℕ → ℕ → ℕ → Option Segment
+resize c bs o x n = choose (eqb n 0) none (refit c bs o x n)
 
 -- A block holds its granules times 16 bytes.
 abbrev pub bytes : Segment → ℕ

@@ -2,11 +2,12 @@
 -- Assumes nothing.
 use Prim.Native.Nat.{ℕ}
 use mathlib.Core.Bool.{Bool}
-use mathlib.Core.List.{List, [], _∷_}
+use mathlib.Core.List.{List, [], _∷_, _++_}
 use mathlib.Core.Option.{Option, none, some}
+use lib.Dec.{eqb}
 use Rattle.model.specs.Choose.{choose, given}
 use Rattle.model.specs.Quantities.{Config}
-use Rattle.model.specs.Allocation.{State, fit}
+use Rattle.model.specs.Allocation.{State, fit, without, refit}
 use Rattle.model.specs.Reasons.{Reason, invalidHeap, badOwner, zeroSize, badAlignment, blockQuotaReached, granuleQuotaExceeded, noPlace, tableFull, pastEnd, notAligned, freeMemory, insideBlock, otherOwner, otherArena, badArena, badTable, badQuota}
 use Rattle.model.specs.declared.Plan.{Plan}
 use Rattle.model.specs.declared.Refusal.{Refusal}
@@ -20,6 +21,14 @@ Order R = List (Reason R)
 abbrev pub offsetOrder : Config → State → ℕ → ℕ → Order Refusal
 offsetOrder c h o x =
     pastEnd c x ∷ notAligned x ∷ freeMemory (h .blocks) x ∷ insideBlock (h .blocks) x ∷ otherOwner (h .blocks) o x ∷ []
+
+-- For the new length of the block at x: 6 with that in place of the old, 7, 8 by the rows afterwards.
+abbrev pub newLengthOrder : Config → State → ℕ → ℕ → ℕ → Order Refusal
+newLengthOrder c h o x n =
+    granuleQuotaExceeded c (without x (h .blocks)) o n
+    ∷ noPlace (refit c (h .blocks) o x n)
+    ∷ tableFull c (without x (h .blocks)) (refit c (h .blocks) o x n)
+    ∷ []
 
 -- A call on a heap is told whether the record and the table are a valid heap, what that was made with, and its state.
 module _ (isValid : Bool) (c : Config) (h : State) where
@@ -40,6 +49,11 @@ module _ (isValid : Bool) (c : Config) (h : State) where
   unfoldable pub freeOrder : List ℕ → ℕ → ℕ → Order Refusal
   freeOrder arena o x =
       invalidHeap isValid ∷ otherArena c arena ∷ badOwner o ∷ offsetOrder c h o x
+
+  -- For a resize, as for a free: 1, 11, 2, 15, 16, 17, 9, 10; then, unless the size is 0, 6, 7, 8.
+  unfoldable pub reallocOrder : List ℕ → ℕ → ℕ → ℕ → Order Refusal
+  reallocOrder arena o x n =
+      freeOrder arena o x ++ choose (eqb n 0) [] (newLengthOrder c h o x n)
 
   -- For a block's size: 1, 2, then 15, 16, 17, 9, 10.
   unfoldable pub blockSizeOrder : ℕ → ℕ → Order Refusal
@@ -78,6 +92,11 @@ quotaOrder c h o n = blockQuotaReached c (h .blocks) o ∷ granuleQuotaExceeded 
 -- 7 and 8 are the last of an allocation's order.
 abbrev pub placeOrder : Config → State → ℕ → ℕ → ℕ → Order Refusal
 placeOrder c h o n a = noPlace (fit c (h .blocks) o n a) ∷ tableFull c (h .blocks) (fit c (h .blocks) o n a) ∷ []
+
+-- 7 and 8 are the last of a resize's order.
+abbrev pub replaceOrder : Config → State → ℕ → ℕ → ℕ → Order Refusal
+replaceOrder c h o x n =
+    noPlace (refit c (h .blocks) o x n) ∷ tableFull c (without x (h .blocks)) (refit c (h .blocks) o x n) ∷ []
 
 -- 2, 15, 16, 17, 9 and 10 are the last of a free's order and of a block size's: what is asked of an owner and an offset.
 abbrev pub blockOrder : Config → State → ℕ → ℕ → Order Refusal

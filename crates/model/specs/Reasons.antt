@@ -46,11 +46,11 @@ blockQuotaReached c bs o = (leb (quota (c .blockQuotas) o) (length (ownedBy o bs
 abbrev pub granuleQuotaExceeded : Config → List Segment → ℕ → ℕ → Reason Refusal
 granuleQuotaExceeded c bs o n = (ltb (quota (c .granuleQuotas) o) (total (charge c) (ownedBy o bs) + needed c n), refusal.GranuleQuota)
 
--- 7: no start serves, so there is no block to place.
+-- 7: there is no place for the block.
 abbrev pub noPlace : Option Segment → Reason Refusal
 noPlace f = (isNone f, refusal.NoPlace)
 
--- 8: with the block placed, the rows in use exceed the table's; the law `eight` (proofs/Laws) says so in 01's words.
+-- 8: with the block placed, the rows in use exceed the table's; the laws `eight` (proofs/Laws) and `six-seven-eight` (proofs/ResizeLaws) say so in the papers' words.
 abbrev pub tableFull : Config → List Segment → Option Segment → Reason Refusal
 tableFull c bs f = (ltb (c .capacity) (rowsOf c (put f bs)), refusal.TableFull)
 

@@ -6,10 +6,10 @@ use mathlib.Core.List.{List}
 use lib.ListN.{length, replicate}
 use Rattle.model.specs.Choose.{given}
 use Rattle.model.specs.Quantities.{Config}
-use Rattle.model.specs.Allocation.{State, fit, put, offset, blockAt, without, bytes, ownedBy, granulesOf, freeGranules, changed}
-use Rattle.model.specs.Arena.{zeroed}
+use Rattle.model.specs.Allocation.{State, fit, put, offset, blockAt, without, resize, bytes, ownedBy, granulesOf, freeGranules, changed}
+use Rattle.model.specs.Arena.{zeroed, moved}
 use Rattle.model.specs.SegmentMap.{longestFree}
-use Rattle.model.specs.Orders.{unless, allocOrder, freeOrder, initOrder, blockSizeOrder, totalsOrder, holdingOrder}
+use Rattle.model.specs.Orders.{unless, allocOrder, freeOrder, reallocOrder, initOrder, blockSizeOrder, totalsOrder, holdingOrder}
 use Rattle.model.specs.declared.Plan.{Plan}
 use Rattle.model.specs.declared.Made.{Made}
 use Rattle.model.specs.declared.Made.the-variants as made
@@ -17,6 +17,8 @@ use Rattle.model.specs.declared.Placed.{Placed}
 use Rattle.model.specs.declared.Placed.the-variants as placed
 use Rattle.model.specs.declared.Freed.{Freed}
 use Rattle.model.specs.declared.Freed.the-variants as freed
+use Rattle.model.specs.declared.Resized.{Resized}
+use Rattle.model.specs.declared.Resized.the-variants as resized
 use Rattle.model.specs.declared.BlockSize.{BlockSize}
 use Rattle.model.specs.declared.BlockSize.the-variants as size
 use Rattle.model.specs.declared.Totals.{Totals}
@@ -47,6 +49,10 @@ placing c h o n a = changed h (put (fit c (h .blocks) o n a) (h .blocks))
 abbrev pub releasing : State → ℕ → State
 releasing h x = changed h (without x (h .blocks))
 
+-- Resizing takes the block at x out of the live blocks and adds the one that is left; the peak counts what is live then.
+abbrev pub resizing : Config → State → ℕ → ℕ → ℕ → State
+resizing c h o x n = changed h (put (resize c (h .blocks) o x n) (without x (h .blocks)))
+
 -- The block of an allocation begins at so many bytes, 0 if there is none.
 abbrev pub offsetFor : Config → State → ℕ → ℕ → ℕ → ℕ
 offsetFor c h o n a = given (fit c (h .blocks) o n a) 0 offset
@@ -54,6 +60,15 @@ offsetFor c h o n a = given (fit c (h .blocks) o n a) 0 offset
 -- The block at x holds so many bytes, 0 if there is none.
 abbrev pub bytesAt : State → ℕ → ℕ
 bytesAt h x = given (blockAt x (h .blocks)) 0 bytes
+
+-- A free's answer, as a resize's.
+abbrev pub asResize : Freed → Resized
+asResize (freed.Bytes k) = resized.Freed k
+asResize (freed.Refused why) = resized.Refused why
+
+-- The value that a resize answers is the byte offset of the block that is left; if none is, the bytes that the block at x holds.
+abbrev pub resizedTo : Config → State → ℕ → ℕ → ℕ → ℕ
+resizedTo c h o x n = given (resize c (h .blocks) o x n) (bytesAt h x) offset
 
 -- The block at x was requested with so many bytes, 0 if there is none.
 abbrev pub requestedAt : State → ℕ → ℕ
@@ -112,6 +127,33 @@ module _ (isValid : Bool) (c : Config) (h : State) where
   -- All bytes of its block are zero then, unless it is refused, and every other byte of the arena stays.
   abbrev pub arenaAfterFree : List ℕ → ℕ → ℕ → List ℕ
   arenaAfterFree arena o x = unless (freeOrder isValid c h arena o x) (zeroed x (bytesAt h x) arena) (λ r. arena)
+
+  -- A resize of the block at x to n bytes answers the byte offset of the block that is left; to size 0 it answers as a free does.
+  abbrev pub realloc : List ℕ → ℕ → ℕ → ℕ → Resized
+  realloc arena o x n =
+      unless (reallocOrder isValid c h arena o x n)
+      (given (resize c (h .blocks) o x n) (resized.Freed (bytesAt h x)) (λ b. resized.At (offset b)))
+      resized.Refused
+
+  -- The block that is left is live then instead of the one at x, unless it is refused.
+  abbrev pub afterRealloc : List ℕ → ℕ → ℕ → ℕ → State
+  afterRealloc arena o x n = unless (reallocOrder isValid c h arena o x n) (resizing c h o x n) (λ r. h)
+
+  -- It is granted the granules of the block that is left, if one is; refused, none.
+  abbrev pub grantedRealloc : List ℕ → ℕ → ℕ → ℕ → ℕ
+  grantedRealloc arena o x n =
+      unless (reallocOrder isValid c h arena o x n) (given (resize c (h .blocks) o x n) 0 (λ b. b .length)) (λ r. 0)
+
+  -- It returns the granules of the block at x; refused, none. (Both are counted whole, so that used changes by their difference.)
+  abbrev pub returnedRealloc : List ℕ → ℕ → ℕ → ℕ → ℕ
+  returnedRealloc arena o x n = unless (reallocOrder isValid c h arena o x n) (given (blockAt x (h .blocks)) 0 (λ b. b .length)) (λ r. 0)
+
+  -- The bytes of the block at x, as many as the block that is left has room for, stand from that block's start on, the rest of the old place is zero (all of it, if no block is left), and every other byte stays; refused, all do.
+  abbrev pub arenaAfterRealloc : List ℕ → ℕ → ℕ → ℕ → List ℕ
+  arenaAfterRealloc arena o x n =
+      unless (reallocOrder isValid c h arena o x n)
+      (given (resize c (h .blocks) o x n) (zeroed x (bytesAt h x) arena) (λ b. moved x (bytesAt h x) (offset b) (bytes b) arena))
+      (λ r. arena)
 
   -- A block's size is the bytes requested and the bytes held.
   abbrev pub blockSize : ℕ → ℕ → BlockSize
