@@ -26,8 +26,15 @@ use Rattle.model.specs.declared.Segment.{Segment}
 use Rattle.segments.specs.declared.Fit.the-variants as fit
 
 -- a segment without granule i
-abbrev lacks : ℕ → Segment → Bool
+abbrev pub lacks : ℕ → Segment → Bool
 lacks i y = not (hasGranule i y)
+
+-- The segments of a tiling lack a granule from its end on, and one before its start.
+pub lacks-after : (s e i : ℕ) (xs : List Segment) → tiles s e xs ≡ true → e ≤ i → every (lacks i) xs ≡ true
+lacks-after s e i xs t h = every-weaker (endsBy e) (lacks i) (λ y k. rw (granule-after i y (omega tests))) xs (tiles-end s e xs t)
+
+pub lacks-before : (s e i : ℕ) (xs : List Segment) → tiles s e xs ≡ true → i < s → every (lacks i) xs ≡ true
+lacks-before s e i xs t h = every-weaker (startsFrom s) (lacks i) (λ y k. rw (granule-before i y (omega tests))) xs (tiles-from s s e xs (omega arith) t)
 
 -- The block over granule i of the arena is the row of that granule if that is live, and else there is none.
 pub over-row : (c : Config) (n : ℕ) (ws : List ℕ) (i row : ℕ) → isMap c (segmentsIn n ws) ≡ true → i < c .granules → RowOf n i ws row
@@ -43,9 +50,9 @@ over-row c n ws i row m h r =
     let p : Parted 0 (c .granules) ys (s ∷ zs) = part 0 (c .granules) ys (s ∷ zs) (subst (λ (k : List Segment). tiles 0 (c .granules) k ≡ true) e t) in
     let f : First (p .at) (c .granules) s zs = first (p .at) (c .granules) s zs (p .back) in
     let before : every (lacks i) (only isLive ys) ≡ true =
-    every-only (lacks i) isLive ys (every-weaker (endsBy (p .at)) (lacks i) (λ y k. rw (granule-after i y (omega tests))) ys (tiles-end 0 (p .at) ys (p .front))) in
+    every-only (lacks i) isLive ys (lacks-after 0 (p .at) i ys (p .front) (omega arith)) in
     let after : every (lacks i) (only isLive zs) ≡ true =
-    every-only (lacks i) isLive zs (every-weaker (startsFrom (s .start + s .length)) (lacks i) (λ y k. rw (granule-before i y (omega tests))) zs (tiles-from (s .start + s .length) (s .start + s .length) (c .granules) zs (omega arith) (f .rest))) in
+    every-only (lacks i) isLive zs (lacks-before (s .start + s .length) (c .granules) i zs (f .rest) (omega arith)) in
     ap (λ (k : List Segment). blockOver i (only isLive k)) e
     ∙ rw (only-append isLive ys (s ∷ zs))
     (first-back (hasGranule i) (only isLive ys) (only isLive (s ∷ zs)) before

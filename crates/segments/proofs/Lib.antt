@@ -5,6 +5,7 @@ pub mod MapTiles
 pub mod TilesMap
 pub mod Reading
 pub mod Filled
+pub mod Copied
 pub mod Tiled
 pub mod Padding
 pub mod Scanned
@@ -20,3 +21,5 @@ pub mod Parted
 pub mod Splitting
 pub mod Releasing
 pub mod Finding
+pub mod Around
+pub mod Replaced

@@ -13,7 +13,7 @@ use Rattle.model.specs.SegmentMap.{isFree, freeRun, gap}
 use Rattle.segments.specs.Changes.{replaced, inserted, removed, cut, joinFirst, joined, freeFirst, freed, released}
 use Rattle.segments.proofs.Replacing.{replaced-none, gap-some, gap-none, cut-steps, join-steps, first-live, second-live, both-free, granules-append, granules-joined, granules-freed, length-freed, length-joined}
 use Rattle.segments.proofs.Reading.{rest-row, row-parted, rows-before}
-use Rattle.segments.proofs.Words.{length-replaced, replaced-count, row-set, rows-same, then-more, then-fewer, table-rows}
+use Rattle.segments.proofs.Words.{length-replaced, replaced-count, row-set, rows-same, then-rows, table-rows}
 use Rattle.segments.proofs.Rows.{read-back, length-segments}
 use Rattle.model.specs.declared.Segment.{Segment}
 
@@ -50,18 +50,13 @@ module _ {n m k : ℕ} {ws part after : List ℕ} {xs : List Segment} (f : List 
   same-next : f (segmentsIn m part) ≡ f xs
   same-next = ap f (rows-read r)
 
-  next : withRows (length xs) (withRows n ws xs) (f xs) ≡ withRows n ws (f xs) → Rewritten n ws (f xs) k after
-  next e =
+  -- One change after another, as a single one.
+  pub change : length xs ≤ max n (length (f xs)) → Rewritten n ws (f xs) k after
+  change h =
       record {
         rows = q .rows ∙ ap length same-next;
-        words = q .words ∙ (λ j. withRows (r .rows j) (r .words j) (same-next j)) ∙ e;
+        words = q .words ∙ (λ j. withRows (r .rows j) (r .words j) (same-next j)) ∙ then-rows n ws xs (f xs) h;
       }
-
-  pub change-more : n ≤ length xs → length xs ≤ length (f xs) → Rewritten n ws (f xs) k after
-  change-more h l = next (then-more n ws xs (f xs) h l)
-
-  pub change-fewer : length xs ≤ n → length (f xs) ≤ length xs → Rewritten n ws (f xs) k after
-  change-fewer h l = next (then-fewer n ws xs (f xs) h l)
 
 module _ (n : ℕ) (ws : List ℕ) (fits : 4 * n ≤ length ws) (i : ℕ) (h : i < n) where
   abbrev here : List Segment
@@ -82,8 +77,8 @@ module _ (n : ℕ) (ws : List ℕ) (fits : 4 * n ≤ length ws) (i : ℕ) (h : i
       let lx : length (replaced i 1 (b ∷ []) here) ≡ n = sym (set-rows b one e .rows) in
       let ly : length (replaced (i + 1) 0 last xs) ≡ length xs - 0 + length last = length-replaced (i + 1) 0 last xs (omega arith) in
       let lz : length (replaced i 0 first ys) ≡ length ys - 0 + length first = length-replaced i 0 first ys (omega arith) in
-      let r2 : Rewritten n ws ys m two = change-more (replaced (i + 1) 0 last) (set-rows b one e) r (omega arith) (omega arith) in
-      let r3 : Rewritten n ws (replaced i 0 first ys) k three = change-more (replaced i 0 first) r2 q (omega arith) (omega arith) in
+      let r2 : Rewritten n ws ys m two = change (replaced (i + 1) 0 last) (set-rows b one e) r (omega arith) in
+      let r3 : Rewritten n ws (replaced i 0 first ys) k three = change (replaced i 0 first) r2 q (omega arith) in
       let z : replaced i 0 first ys ≡ replaced i 1 (first ++ (b ∷ last)) here =
       ap (λ (t : List Segment). replaced i 0 first (replaced (i + 1) 0 last (replaced i 1 (b ∷ []) t))) (row-parted n ws i h)
       ∙ cut-steps (take i here) (drop (i + 1) here) (segmentAt ws i) b first last i (rows-before n ws i h)
@@ -149,14 +144,14 @@ module _ (n : ℕ) (ws : List ℕ) (fits : 4 * n ≤ length ws) (i : ℕ) (h : i
       ap (λ (q : List Segment). removed (i + 1) (replaced i 1 (run ∷ []) q)) (row-parted n ws i (omega arith) ∙ ap (λ (q : List Segment). take i these ++ (segmentAt ws i ∷ q)) (rest-row n (i + 1) ws h))
       ∙ join-steps (take i these) (drop (i + 1 + 1) these) (segmentAt ws i) (segmentAt ws (i + 1)) run i (rows-before n ws i (omega arith))
       ∙ w in
-      subst (λ (q : List Segment). Rewritten n ws q (n - 1) two) z (change-fewer (removed (i + 1)) s t (omega arith) (omega arith))
+      subst (λ (q : List Segment). Rewritten n ws q (n - 1) two) z (change (removed (i + 1)) s t (omega arith))
 
 -- A table of some segments in which other rows were put is the table of those.
-pub rewritten-table : (capacity n m : ℕ) (ws after : List ℕ) (xs : List Segment) → n ≤ capacity → tableOf capacity (segmentsIn n ws) ≡ ws → length xs ≤ capacity
+pub rewritten-table : (capacity n m : ℕ) (ws after : List ℕ) (xs : List Segment) → n ≤ capacity → tableOf capacity (segmentsIn n ws) ≡ ws
     → Rewritten n ws xs m after → after ≡ tableOf capacity xs
-rewritten-table capacity n m ws after xs h e k w =
+rewritten-table capacity n m ws after xs h e w =
     let l : length (segmentsIn n ws) ≡ n = length-segments n ws in
-    w .words ∙ sym (λ i. withRows (l i) (e i) xs) ∙ table-rows capacity (segmentsIn n ws) xs (omega arith) k
+    w .words ∙ sym (λ i. withRows (l i) (e i) xs) ∙ table-rows capacity (segmentsIn n ws) xs (omega arith)
 
 -- Row i freed, and joined with the rows beside it.
 module _ (n : ℕ) (ws : List ℕ) (fits : 4 * n ≤ length ws) (i : ℕ) (h : i < n) (s run : Segment) (one : List ℕ)
@@ -184,7 +179,7 @@ module _ (n : ℕ) (ws : List ℕ) (fits : 4 * n ≤ length ws) (i : ℕ) (h : i
     joined-once =
         let l = length-joined i (freed i rows) in
         let k : length (freed i rows) ≡ n = length-freed i rows ∙ length-segments n ws in
-        let r : Rewritten n ws (joined i (freed i rows)) m two = change-fewer (joined i) freed-rows j (omega arith) (l .0) in
+        let r : Rewritten n ws (joined i (freed i rows)) m two = change (joined i) freed-rows j (omega arith) in
         record {
           rewritten = r;
           fewer = omega arith;
@@ -199,4 +194,4 @@ module _ (n : ℕ) (ws : List ℕ) (fits : 4 * n ≤ length ws) (i : ℕ) (h : i
     released-rows p k three q =
         let o : JoinedOnce = joined-once in
         rw (lt-ltb 0 i p)
-        (change-fewer (joined (i - 1)) (o .rewritten) q (omega (arith, o .rewritten .rows)) (length-joined (i - 1) (joined i (freed i rows)) .0))
+        (change (joined (i - 1)) (o .rewritten) q (omega (arith, o .rewritten .rows)))

@@ -119,8 +119,8 @@ row-at s e g (x ∷ xs) t h k =
     (λ q. let r : RowAt g xs = row-at (x .start + x .length) e g xs (f .rest) (omega tests) k in
     record { before = x ∷ r .before; row = r .row; after = r .after; all = ap (λ l. x ∷ l) (r .all); low = r .low; high = r .high })
 
--- granules that are clear of live rows and begin before them end before them
-clear-end : (s g p e : ℕ) (zs : List Segment) → tiles p e zs ≡ true → firstFree zs ≡ false → every (clearOf s g) (only isLive zs) ≡ true
+-- Granules that are clear of live rows and begin before them end before them.
+pub clear-end : (s g p e : ℕ) (zs : List Segment) → tiles p e zs ≡ true → firstFree zs ≡ false → every (clearOf s g) (only isLive zs) ≡ true
     → s < p → s + g ≤ e → s + g ≤ p
 clear-end s g p e [] t n d h k = omega tests
 clear-end s g p e (z ∷ zs) t n d h k =

@@ -31,8 +31,8 @@ first s e x xs t =
     record { start = eqb-true (x .start) s p; some = omega tests; rest = subst (λ (k : ℕ). tiles (k + x .length) e xs ≡ true) (sym (eqb-true (x .start) s p)) r }
 
 -- a well-formed segment is live or a free run
-pub formed-live : (c : Config) (x : Segment) → eqb (x .owner) 0 ≡ false → 1 ≤ x .length → wellFormed c x ≡ true → Live c x
-formed-live c x q l w =
+pub formed-live : (c : Config) (x : Segment) → eqb (x .owner) 0 ≡ false → wellFormed c x ≡ true → Live c x
+formed-live c x q w =
     let k : leb (x .owner) 8 ≡ true = search parts in
     let r : requestedFits c x ≡ true = search parts in
     let v : within (16 * (x .length - 1) + 1) (16 * x .length) (x .requested) ≡ true = rw q at r in
@@ -82,7 +82,7 @@ ordered-back c s (x ∷ xs) t w =
     let r : Ordered c (x .start + x .length) (only isLive xs) = ordered-back c (x .start + x .length) xs (f .rest) (every-tail (wellFormed c) x xs w) in
     split (eqb (x .owner) 0)
     (λ q. rw q (earlier c (x .start + x .length) s (only isLive xs) (omega arith) r))
-    (λ q. rw q (omega arith, formed-live c x q (f .some) (every-head (wellFormed c) x xs w), r))
+    (λ q. rw q (omega arith, formed-live c x q (every-head (wellFormed c) x xs w), r))
 
 -- What makes rows a map, by name.
 pub record MapParts (c : Config) (xs : List Segment) : Type 0 where

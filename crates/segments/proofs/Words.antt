@@ -4,7 +4,7 @@ use mathlib.Core.Path.{_≡_, refl, sym, ap, _∙_}
 use mathlib.Core.List.{List, [], _∷_, _++_, append-assoc, append-nil}
 use Prim.Native.Nat.{ℕ, zero, suc, _+_, _*_, _-_, _≤_, _<_, max}
 use native.Mathlib.Omega.{arith}
-use lib.ListN.{length, take, drop, replicate, length-append, length-take, length-drop, take-append-drop, drop-of-length-le}
+use lib.ListN.{length, take, drop, replicate, length-append, length-take, length-drop, take-append-drop, drop-of-length-le, replicate-append-replicate}
 use lib.Seq.{take-all, take-at, drop-at, drop-append-add, drop-drop, length-take-le}
 use borrow.Rule.Slice.PartMut.{midOf, putMid}
 use Rattle.segments.specs.Rows.{wordsOf, tableOf, segmentAt, segmentsIn, withRow, withRows}
@@ -17,9 +17,10 @@ pub words-append : (ys zs : List Segment) → wordsOf (ys ++ zs) ≡ wordsOf ys 
 words-append [] zs = refl
 words-append (y ∷ ys) zs = ap (λ r. y .start ∷ y .length ∷ y .owner ∷ y .requested ∷ r) (words-append ys zs)
 
-zeros-join : (a b : ℕ) → replicate a 0 ++ replicate b 0 ≡ replicate {A = ℕ} (a + b) 0
-zeros-join zero b = let z : 0 + b ≡ b = omega arith in rw z
-zeros-join (suc a) b = let z : suc a + b ≡ suc (a + b) = omega arith in rw z (ap (λ (q : List ℕ). 0 ∷ q) (zeros-join a b))
+drop-zeros : (k n : ℕ) (ws : List ℕ) → drop k (replicate n 0 ++ ws) ≡ replicate (n - k) 0 ++ drop (k - n) ws
+drop-zeros zero n ws = let z : n - 0 ≡ n = omega arith in let y : 0 - n ≡ 0 = omega arith in rw (z, y)
+drop-zeros (suc k) zero ws = let z : 0 - suc k ≡ 0 = omega arith in let y : suc k - 0 ≡ suc k = omega arith in rw (z, y)
+drop-zeros (suc k) (suc n) ws = let z : suc n - suc k ≡ n - k = omega arith in let y : suc k - suc n ≡ k - n = omega arith in rw (z, y) (drop-zeros k n ws)
 
 -- the words of the first n rows
 words-read : (n : ℕ) (ws : List ℕ) → 4 * n ≤ length ws → take (4 * n) ws ≡ wordsOf (segmentsIn n ws)
@@ -161,53 +162,36 @@ module _ (n : ℕ) (ws : List ℕ) (fits : 4 * n ≤ length ws) (i : ℕ) where
   pub rows-same : withRows n ws segs ≡ ws
   rows-same = more-rows n ws segs (omega (arith, length-segments n ws)) ∙ ap (λ (q : ℕ). wordsOf segs ++ drop (4 * q) ws) (length-segments n ws) ∙ words-back n ws fits
 
--- One change after another, if both take no row out of use, or both take none into use.
-module _ (n : ℕ) (ws : List ℕ) (xs ys : List Segment) where
-  pub then-more : n ≤ length xs → length xs ≤ length ys → withRows (length xs) (withRows n ws xs) ys ≡ withRows n ws ys
-  then-more h k =
-      let l : length (wordsOf xs) ≡ 4 * length xs = length-words xs in
-      let z : 4 * length ys ≡ length (wordsOf xs) + (4 * length ys - 4 * length xs) = omega arith in
-      let y : 4 * length xs + (4 * length ys - 4 * length xs) ≡ 4 * length ys = omega arith in
-      more-rows (length xs) (withRows n ws xs) ys k
-      ∙ ap (λ (q : List ℕ). wordsOf ys ++ q)
-      (ap (drop (4 * length ys)) (more-rows n ws xs h)
-      ∙ ap (λ (q : ℕ). drop q (wordsOf xs ++ drop (4 * length xs) ws)) z
-      ∙ drop-append-add (wordsOf xs) (drop (4 * length xs) ws) (4 * length ys - 4 * length xs)
-      ∙ drop-drop (4 * length ys - 4 * length xs) (4 * length xs) ws
-      ∙ ap (λ (q : ℕ). drop q ws) y)
-      ∙ sym (more-rows n ws ys (omega arith))
+-- what stands after b rows, written over a rows that were written over n
+module _ (n a b : ℕ) (h : a ≤ max n b) where
+  zeros-left : 4 * (a - b) + (4 * (n - a) - 4 * (b - a)) ≡ 4 * (n - b)
+  zeros-left = omega arith
 
-  pub then-fewer : length xs ≤ n → length ys ≤ length xs → withRows (length xs) (withRows n ws xs) ys ≡ withRows n ws ys
-  then-fewer h k =
-      let l : length (wordsOf xs) ≡ 4 * length xs = length-words xs in
-      let z : 4 * (length xs - length ys) + 4 * (n - length xs) ≡ 4 * (n - length ys) = omega arith in
-      fewer-rows (length xs) (withRows n ws xs) ys k
-      ∙ ap (λ (q : List ℕ). wordsOf ys ++ (replicate (4 * (length xs - length ys)) 0 ++ q))
-      (ap (drop (4 * length xs)) (fewer-rows n ws xs h) ∙ drop-at (wordsOf xs) (replicate (4 * (n - length xs)) 0 ++ drop (4 * n) ws) (4 * length xs) l)
-      ∙ ap (λ (q : List ℕ). wordsOf ys ++ q)
-      (sym (append-assoc (replicate (4 * (length xs - length ys)) 0) (replicate (4 * (n - length xs)) 0) (drop (4 * n) ws))
-      ∙ ap (λ (q : List ℕ). q ++ drop (4 * n) ws) (zeros-join (4 * (length xs - length ys)) (4 * (n - length xs)) ∙ ap (λ (q : ℕ). replicate q 0) z))
-      ∙ sym (fewer-rows n ws ys (omega arith))
+  words-left : 4 * max n a + (4 * (b - a) - 4 * (n - a)) ≡ 4 * max n b
+  words-left = omega arith
+
+  tail-left : (us ws : List ℕ) → length us ≡ 4 * a
+      → replicate (4 * (a - b)) 0 ++ drop (4 * max a b) (us ++ (replicate (4 * (n - a)) 0 ++ drop (4 * max n a) ws)) ≡ replicate (4 * (n - b)) 0 ++ drop (4 * max n b) ws
+  tail-left us ws l =
+      let z : 4 * max a b ≡ length us + 4 * (b - a) = omega arith in
+      rw (z, drop-append-add, drop-zeros, drop-drop, words-left, ← append-assoc, replicate-append-replicate, zeros-left)
+
+-- One change after another leaves what the second alone does, unless the first takes rows into use that the second takes out of use again.
+pub then-rows : (n : ℕ) (ws : List ℕ) (xs ys : List Segment) → length xs ≤ max n (length ys) → withRows (length xs) (withRows n ws xs) ys ≡ withRows n ws ys
+then-rows n ws xs ys h = ap (λ (q : List ℕ). wordsOf ys ++ q) (tail-left n (length xs) (length ys) h (wordsOf xs) ws (length-words xs))
 
 -- A row before zeros.
-drop-zeros : (k n : ℕ) → drop {A = ℕ} k (replicate n 0) ≡ replicate (n - k) 0
-drop-zeros zero n = let z : n - 0 ≡ n = omega arith in rw z
-drop-zeros (suc k) zero = let z : 0 - suc k ≡ 0 = omega arith in rw z
-drop-zeros (suc k) (suc n) = let z : suc n - suc k ≡ n - k = omega arith in rw z (drop-zeros k n)
-
 pub row-zeros : (n : ℕ) (x : Segment) → withRow (replicate n 0) 0 x ≡ wordsOf (x ∷ []) ++ replicate (n - 4) 0
-row-zeros n x = ap (λ (q : List ℕ). wordsOf (x ∷ []) ++ q) (drop-zeros 4 n)
+row-zeros n x =
+    ap (λ (q : List ℕ). wordsOf (x ∷ []) ++ q)
+    (ap (drop 4) (sym (append-nil (replicate n 0))) ∙ drop-zeros 4 n [] ∙ rw (drop-of-length-le {A = ℕ} [] {i = 4 - n} (omega arith)) (append-nil (replicate (n - 4) 0)))
+
+-- the table of some segments, as rows written over none
+table-is : (capacity : ℕ) (xs : List Segment) → tableOf capacity xs ≡ withRows capacity [] xs
+table-is capacity xs =
+    sym (rw (drop-of-length-le {A = ℕ} [] {i = 4 * max capacity (length xs)} (omega arith), append-nil (replicate {A = ℕ} (4 * (capacity - length xs)) 0)))
 
 -- The table of some segments with others in use instead is the table of those.
-pub table-rows : (capacity : ℕ) (xs ys : List Segment) → length xs ≤ capacity → length ys ≤ capacity → withRows (length xs) (tableOf capacity xs) ys ≡ tableOf capacity ys
-table-rows capacity xs ys h k =
-    let n : ℕ = 4 * (capacity - length xs) in
-    let l : length (wordsOf xs) ≡ 4 * length xs = length-words xs in
-    let z : 4 * max (length xs) (length ys) ≡ length (wordsOf xs) + 4 * (length ys - length xs) = omega arith in
-    let y : 4 * (length xs - length ys) + (n - 4 * (length ys - length xs)) ≡ 4 * (capacity - length ys) = omega arith in
-    let tail : drop (4 * max (length xs) (length ys)) (tableOf capacity xs) ≡ replicate (n - 4 * (length ys - length xs)) 0 =
-    ap (λ (q : ℕ). drop q (tableOf capacity xs)) z ∙ drop-append-add (wordsOf xs) (replicate n 0) (4 * (length ys - length xs)) ∙ drop-zeros (4 * (length ys - length xs)) n in
-    ap (λ (q : List ℕ). wordsOf ys ++ q)
-    (ap (λ (q : List ℕ). replicate (4 * (length xs - length ys)) 0 ++ q) tail
-    ∙ zeros-join (4 * (length xs - length ys)) (n - 4 * (length ys - length xs))
-    ∙ ap (λ (q : ℕ). replicate q 0) y)
+pub table-rows : (capacity : ℕ) (xs ys : List Segment) → length xs ≤ capacity → withRows (length xs) (tableOf capacity xs) ys ≡ tableOf capacity ys
+table-rows capacity xs ys h =
+    ap (λ (q : List ℕ). withRows (length xs) q ys) (table-is capacity xs) ∙ then-rows capacity [] xs ys (omega arith) ∙ sym (table-is capacity ys)

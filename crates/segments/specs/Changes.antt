@@ -1,11 +1,18 @@
--- What is done to the rows in use when a block is lent or given back.
+-- What is done to the rows in use when a block is lent, given back or resized.
 -- Assumes nothing.
-use Prim.Native.Nat.{ℕ, _+_, _-_}
+use Prim.Native.Nat.{ℕ, _+_, _-_, _*_, _≤_, _<_}
+use mathlib.Core.Path.{_≡_}
+use mathlib.Core.Bool.{true}
 use mathlib.Core.List.{List, [], _∷_, _++_}
 use lib.Dec.{ltb}
-use lib.ListN.{take, drop}
+use lib.ListN.{length, take, drop}
 use Rattle.model.specs.Choose.{choose, both}
-use Rattle.model.specs.SegmentMap.{isFree, freeRun, gap}
+use Rattle.model.specs.Quantities.{Config}
+use Rattle.model.specs.Allocation.{room}
+use Rattle.model.specs.SegmentMap.{isFree, isLive, freeRun, gap}
+use Rattle.segments.specs.Rows.{segmentAt, segmentsIn}
+use Rattle.segments.specs.Tiling.{wellFormed, isMap}
+use Rattle.segments.specs.Search.{others}
 use Rattle.model.specs.declared.Segment.{Segment}
 
 -- The k rows from row i on are replaced by others.
@@ -46,3 +53,14 @@ freed i xs = take i xs ++ freeFirst (drop i xs)
 -- Row i becomes a free run, and is joined with the row after it and the row before it, each if that is free.
 abbrev pub released : ℕ → List Segment → List Segment
 released i xs = choose (ltb 0 i) (joined (i - 1) (joined i (freed i xs))) (joined i (freed i xs))
+
+-- A block may take the place of the one in row i of n, which are a map: there is room for it beside the other blocks.
+pub record Replaceable (c : Config) (n i : ℕ) (b : Segment) (ws : List ℕ) : Type 0 where
+  pub inUse : i < n
+  pub map : isMap c (segmentsIn n ws) ≡ true
+  pub small : c .granules ≤ 4294967295
+  pub old : isLive (segmentAt ws i) ≡ true
+  pub formed : wellFormed c b ≡ true
+  pub live : isLive b ≡ true
+  pub fits : room c (others n i ws) (b .length) (b .start) ≡ true
+  pub words : 4 * n ≤ length ws

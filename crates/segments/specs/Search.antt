@@ -1,14 +1,16 @@
--- What is looked for in the rows: the row of a granule, and the place that first fit names.
+-- What is looked for in the rows: the row of a granule, the place that first fit names, and the start of a block with another length.
 -- Assumes nothing.
 use Prim.Native.Nat.{ℕ, _+_, _≤_, _<_}
 use mathlib.Core.Path.{_≡_}
 use mathlib.Core.Bool.{true}
 use mathlib.Core.List.{List}
 use mathlib.Core.Option.{Option, none, some}
+use Rattle.model.specs.Choose.{choose}
 use Rattle.model.specs.Quantities.{Config}
-use Rattle.model.specs.Allocation.{lowestStart, hasGranule}
+use Rattle.model.specs.Allocation.{room, lowestStart, offset, hasGranule, without}
 use Rattle.segments.specs.Rows.{segmentAt, segmentsIn, blocksIn}
 use Rattle.segments.specs.Tiling.{tiles}
+use Rattle.model.specs.declared.Segment.{Segment}
 use Rattle.segments.specs.declared.Fit.{Fit}
 use Rattle.segments.specs.declared.Fit.the-variants as fit
 
@@ -38,3 +40,12 @@ HasRoom n g ws fit.Nothing = Unit {0}
 pub record Found (c : Config) (n g a : ℕ) (ws : List ℕ) (found : Fit) : Type 0 where
   pub lowest : lowestStart c (blocksIn n ws) g a ≡ startOf found
   pub room : HasRoom n g ws found
+
+-- The blocks but for the one in row i of n.
+abbrev pub others : ℕ → ℕ → List ℕ → List Segment
+others n i ws = without (offset (segmentAt ws i)) (blocksIn n ws)
+
+-- The block in row i of n with g granules starts where it does if there is room beside the other blocks, else at the lowest start clear of all, if there is one.
+abbrev pub refitStart : Config → ℕ → ℕ → ℕ → List ℕ → Option ℕ
+refitStart c n i g ws =
+    choose (room c (others n i ws) g (segmentAt ws i .start)) (some (segmentAt ws i .start)) (lowestStart c (blocksIn n ws) g 16)

@@ -3,11 +3,12 @@
 use Prim.Native.Nat.{ℕ, _+_, _-_, _%_, max}
 use mathlib.Core.Bool.{Bool, true, false, not}
 use mathlib.Core.List.{List, _++_}
-use lib.Dec.{leb, eqb}
+use lib.Dec.{leb, ltb, eqb}
 use lib.ListN.{getD, set, take, drop, replicate}
 use Rattle.model.specs.Choose.{choose, both}
 use Rattle.model.specs.Quantities.{Config}
-use Rattle.model.specs.SegmentMap.{isFree}
+use Rattle.model.specs.SegmentMap.{isFree, freeRun}
+use Rattle.segments.specs.Rows.{segmentAt}
 use Rattle.segments.specs.Tiling.{wellFormed}
 use Rattle.model.specs.declared.Segment.{Segment}
 use Rattle.segments.specs.declared.Census.{Census}
@@ -73,3 +74,18 @@ countedOf c k x =
     choose (k .ok)
     (choose (followsOf c k x) (choose (isFree x) (freeOf k (x .length)) (liveOf k (x .owner) (x .length))) (brokenOf k))
     k
+
+-- The free run that row i leaves when it is released begins at the row before it if that is free, else at row i.
+abbrev pub runFrom : ℕ → List ℕ → ℕ
+runFrom i ws = choose (both (ltb 0 i) (isFree (segmentAt ws (i - 1)))) (segmentAt ws (i - 1) .start) (segmentAt ws i .start)
+
+-- It ends with the row after it if that is one of the n and free, else with row i.
+abbrev pub runTo : ℕ → ℕ → List ℕ → ℕ
+runTo n i ws =
+    choose (both (ltb (i + 1) n) (isFree (segmentAt ws (i + 1))))
+    (segmentAt ws (i + 1) .start + segmentAt ws (i + 1) .length)
+    (segmentAt ws i .start + segmentAt ws i .length)
+
+-- It is one free row.
+abbrev pub runAround : ℕ → ℕ → List ℕ → Segment
+runAround n i ws = freeRun (runFrom i ws) (runTo n i ws - runFrom i ws)

@@ -3,19 +3,19 @@ ghost use mathlib.Core.Path.{_≡_};
 ghost use mathlib.Core.Bool.{true};
 ghost use mathlib.Core.List.{_∷_, [], _++_};
 ghost use Prim.Native.Nat.{_+_, _-_, _*_, _%_, _<_, _≤_, max};
-ghost use lib.Dec.{eqb};
+ghost use lib.Dec.{leb, eqb};
 ghost use lib.ListN.{length, drop, replicate};
-ghost use Rattle.model.specs.Choose.{every};
+ghost use Rattle.model.specs.Choose.{choose, either, both, every};
 ghost use Rattle.model.specs.Quantities.{Config, isAlignment};
-ghost use Rattle.model.specs.Allocation.{granulesOf};
-ghost use Rattle.model.specs.Arena.{written};
-ghost use Rattle.model.specs.SegmentMap.{freeRun, gap};
+ghost use Rattle.model.specs.Allocation.{insert, hasGranule, granulesOf};
+ghost use Rattle.model.specs.Arena.{written, slice, disjoint, moved};
+ghost use Rattle.model.specs.SegmentMap.{isLive, freeRun, gap, mapOf, rowsOf};
 ghost use Rattle.segments.specs.Rows.{wordsOf, segmentAt, segmentsIn, withRow, withRows, Rewritten};
 ghost use Rattle.segments.specs.Tiling.{isMap};
-ghost use Rattle.segments.specs.Search.{RowOf, Found};
+ghost use Rattle.segments.specs.Search.{RowOf, startOf, Found, others, refitStart};
 ghost use Rattle.segments.specs.Counting.{notCounted, Bounded, Counted};
-ghost use Rattle.segments.specs.Changes.{replaced, inserted, removed, cut, joined, released};
-ghost use Rattle.segments.specs.Steps.{opened, closed, padding, noneCounted, followsOf, countedOf, brokenOf, freeOf, liveOf};
+ghost use Rattle.segments.specs.Changes.{replaced, inserted, removed, cut, joined, released, Replaceable};
+ghost use Rattle.segments.specs.Steps.{opened, closed, padding, noneCounted, followsOf, countedOf, brokenOf, freeOf, liveOf, runFrom, runTo, runAround};
 use model::Segment;
 use model::granules_for;
 
@@ -387,6 +387,110 @@ pub fn release_row(table: &mut [u32], rows: usize, i: usize) -> usize
     n
 }
 
+// Where the free run begins that row i leaves when it is released.
+fn run_from(table: &[u32], i: usize) -> u32
+    requires { do ⌜ 4 * i + 4 ≤ (← ⟦table.len()⟧) ⌝ }
+    ensures { λ r. ⌜ r ≡ runFrom i (now (table .entry)) ⌝ }
+{
+    let s = row(table, i);
+    if i == 0 {
+        return s.start;
+    }
+    let before = row(table, i - 1);
+    if before.owner == 0 {
+        before.start
+    } else {
+        s.start
+    }
+}
+
+// Where that run ends.
+fn run_to(table: &[u32], rows: usize, i: usize) -> u32
+    requires { do ⌜ (i < rows) × (4 * rows ≤ (← ⟦table.len()⟧)) × ((c : Config) × (c .granules ≤ 4294967295) × (isMap c (segmentsIn rows (now table)) ≡ true)) ⌝ }
+    ensures { λ r. ⌜ r ≡ runTo rows i (now (table .entry)) ⌝ }
+{
+    let s = row(table, i);
+    if rows - i == 1 {
+        return s.start + s.length;
+    }
+    let after = row(table, i + 1);
+    if after.owner == 0 {
+        after.start + after.length
+    } else {
+        s.start + s.length
+    }
+}
+
+// The start of the block in row i with `need` granules: its own if the free run around it ends no earlier, else where first fit says. The bound on
+// `need` is so that the sum fits a word.
+pub fn refit(table: &[u32], rows: usize, i: usize, need: u32) -> Fit
+    requires { do
+      ⌜ (i < rows)
+          × (4 * rows ≤ (← ⟦table.len()⟧))
+          × (1 ≤ need)
+          × (need ≤ 4294901759)
+          × ((c : Config) × (c .granules ≤ 65536) × (isMap c (segmentsIn rows (now table)) ≡ true)) ⌝ }
+    ensures { λ r. ⌜ ((c : Config) → c .granules ≤ 65536 → isMap c (segmentsIn rows (now (table .entry))) ≡ true → isLive (segmentAt (now (table .entry)) i) ≡ true → startOf r ≡ refitStart c rows i need (now (table .entry))) ⌝ }
+{
+    let s = row(table, i);
+    let to = run_to(table, rows, i);
+    if s.start + need <= to {
+        return Fit::At {
+            row: i,
+            start: s.start,
+        };
+    }
+    first_fit(table, rows, need, 16)
+}
+
+// The free run that row i leaves when it is released, if the rows are a map.
+fn run_around(table: &[u32], rows: usize, i: usize) -> Segment
+    requires { do ⌜ (i < rows) × (4 * rows ≤ (← ⟦table.len()⟧)) × ((c : Config) × (c .granules ≤ 4294967295) × (isMap c (segmentsIn rows (now table)) ≡ true)) ⌝ }
+    ensures { λ r. ⌜ r ≡ runAround rows i (now (table .entry)) ⌝ }
+{
+    let from = run_from(table, i);
+    let to = run_to(table, rows, i);
+    free_run(from, to - from)
+}
+
+// The row that a granule is in once a block is given back: `run`, the free run that is left, if it has the granule, and else `before`, its row until then.
+fn row_without(run: Segment, before: Segment, granule: u32) -> Segment
+    requires { ⌜ run .start + run .length ≤ 4294967295 ⌝ }
+    ensures { λ r. ⌜ r ≡ choose (hasGranule granule run) run before ⌝ }
+{
+    if granule < run.start {
+        return before;
+    }
+    if granule < run.start + run.length {
+        run
+    } else {
+        before
+    }
+}
+
+// How many rows the map has with a block in the place of the one in row i.
+pub fn rows_after_replace(table: &[u32], rows: usize, i: usize, block: Segment) -> usize
+    requires { ⌜ ((c : Config) × Replaceable c rows i block (now table)) ⌝ }
+    ensures { λ r. ⌜ ((c : Config) → Replaceable c rows i block (now (table .entry)) → r ≡ rowsOf c (insert block (others rows i (now (table .entry))))) ⌝ }
+{
+    let old = row(table, i);
+    let run = run_around(table, rows, i);
+    let at = row_of(table, rows, block.start);
+    let before = row(table, at);
+    let room = row_without(run, before, block.start);
+    rows - pieces(run, old) + pieces(room, block)
+}
+
+// A block put into the place of the one in row i; answers the rows in use.
+pub fn replace_row(table: &mut [u32], rows: usize, i: usize, block: Segment) -> usize
+    requires { ⌜ ((c : Config) × Replaceable c rows i block (now table) × (4 * rowsOf c (insert block (others rows i (now table))) ≤ length (now table))) ⌝ }
+    ensures { λ r. ⌜ ((c : Config) → Replaceable c rows i block (now (table .entry)) → Rewritten rows (now (table .entry)) (mapOf c (insert block (others rows i (now (table .entry))))) r (now (table .exit))) ⌝ }
+{
+    let n = release_row(table, rows, i);
+    let at = row_of(table, n, block.start);
+    split_row(table, n, at, block)
+}
+
 // The words from a place on are all zero.
 pub fn zero_from(table: &[u32], from: usize) -> bool
     ensures { λ r. ⌜ r ≡ every (eqb 0) (drop from (now (table .entry))) ⌝ }
@@ -432,5 +536,33 @@ pub fn fill(bytes: &mut [u8], from: usize, count: usize, value: u8)
     while i < end {
         bytes[i] = value;
         i += 1;
+    }
+}
+
+// A run of bytes copied to a place that has none of them.
+fn copy(bytes: &mut [u8], from: usize, to: usize, count: usize)
+    requires { do ⌜ (from + count ≤ (← ⟦bytes.len()⟧)) × (to + count ≤ (← ⟦bytes.len()⟧)) × (disjoint from count to count ≡ true) ⌝ }
+    ensures { λ r. ⌜ now (bytes .exit) ≡ written to (slice from count (now (bytes .entry))) (now (bytes .entry)) ⌝ }
+{
+    let mut i: usize = 0;
+    while i < count {
+        bytes[to + i] = bytes[from + i];
+        i += 1;
+    }
+}
+
+// The bytes of a block go with it, from a place of `held` bytes to one of `room`. If it is the same place, only what is past `room` is zeroed; else the two
+// have no byte in common, the new one is no shorter, and the old one is zeroed.
+pub fn move_bytes(bytes: &mut [u8], from: usize, held: usize, to: usize, room: usize)
+    requires { do ⌜ (from + held ≤ (← ⟦bytes.len()⟧)) × (to + room ≤ (← ⟦bytes.len()⟧)) × (either (eqb from to) (both (leb held room) (disjoint from held to room)) ≡ true) ⌝ }
+    ensures { λ r. ⌜ now (bytes .exit) ≡ moved from held to room (now (bytes .entry)) ⌝ }
+{
+    if from != to {
+        copy(bytes, from, to, held);
+        fill(bytes, from, held, 0);
+        return;
+    }
+    if room < held {
+        fill(bytes, from + room, held - room, 0);
     }
 }
