@@ -13,6 +13,7 @@ use Rattle.model.specs.Choose.{choose}
 use Rattle.model.specs.Quantities.{isOwner}
 use Rattle.model.specs.Allocation.{granulesFor, granulesOf, ownedBy}
 use Rattle.model.specs.Orders.{firstReason, quotaOrder, totalsOrder, holdingOrder}
+use Rattle.model.proofs.Choosing.{split, tests}
 use Rattle.model.proofs.Ranges.{within-least, within-most, quota-at}
 use Rattle.segments.specs.Rows.{segmentsIn, blocksIn}
 use Rattle.segments.specs.Counting.{Bounded, Counted}
@@ -34,11 +35,15 @@ module _ (o : ℕ) (w : isOwner o ≡ true) where
   pub owner-least : 1 ≤ o
   owner-least = within-least 1 8 o w
 
-  owner-most : o ≤ 8
+  pub owner-most : o ≤ 8
   owner-most = within-most 1 8 o w
 
   pub owner-index : o - 1 < 8
   owner-index = omega (arith, owner-least, owner-most)
+
+-- What is needed, taken from the most or added to what is held: the same test.
+pub exceeds-moved : (most held need : ℕ) → need ≤ most → ltb (most - need) held ≡ ltb most (held + need)
+exceeds-moved most held need h = split (ltb (most - need) held) (λ q. q ∙ sym (lt-ltb most (held + need) (omega tests))) (λ q. q ∙ sym (le-ltb most (held + need) (omega tests)))
 
 -- No figure of a heap exceeds its granules, and those are at most 65,536: in bytes each fits a word.
 pub record Small (r : Heap) (k : Census) : Type 0 where
@@ -99,7 +104,8 @@ module _ (r : Heap) (ws : List ℕ) (k : Census) (e : Examined r ws k) where
       blocks-counted : getD (k .blocks) (o - 1) 0 ≡ length (ownedBy o (blocksIn (r .rows) ws))
       blocks-counted = counted .blocks good o (owner-least o w) (owner-most o w)
 
-      granules-counted : getD (k .held) (o - 1) 0 ≡ granulesOf (ownedBy o (blocksIn (r .rows) ws))
+      -- An owner's figure is what its blocks hold.
+      pub granules-counted : getD (k .held) (o - 1) 0 ≡ granulesOf (ownedBy o (blocksIn (r .rows) ws))
       granules-counted = counted .held good o (owner-least o w) (owner-most o w)
 
       -- What an owner holds is its figures.

@@ -59,14 +59,13 @@ module _ (r : Heap) (ws : List ℕ) (v : valid r ws ≡ true) where
       }
 
   -- The rows of other live blocks put into the table, and the record updated with what they hold, are the state with those blocks, stored.
-  pub stored-changed : (bs xs : List Segment) (m used : ℕ) (after : List ℕ) → xs ≡ mapOf (configOf r) bs → rowsOf (configOf r) bs ≤ r .capacity → used ≡ granulesOf bs
+  pub stored-changed : (bs xs : List Segment) (m used : ℕ) (after : List ℕ) → xs ≡ mapOf (configOf r) bs → used ≡ granulesOf bs
       → Rewritten (r .rows) ws xs m after
       → handed (updatedOf r m used) after ≡ store (configOf r) (changed (stateIn r ws) bs)
-  stored-changed bs xs m used after e h u w =
+  stored-changed bs xs m used after e u w =
       let rows : m ≡ rowsOf (configOf r) bs = w .rows ∙ ap length e in
-      let few : length xs ≤ r .capacity = omega (arith, ap length e) in
       let words : after ≡ tableOf (r .capacity) (mapOf (configOf r) bs) =
-      rewritten-table (r .capacity) (r .rows) m ws after xs (all .rowsMost) (table-rows-are r ws v) few w ∙ ap (tableOf (r .capacity)) e in
+      rewritten-table (r .capacity) (r .rows) m ws after xs (all .rowsMost) (table-rows-are r ws v) w ∙ ap (tableOf (r .capacity)) e in
       λ i. record {
         heap = record {
           capacity = r .capacity;

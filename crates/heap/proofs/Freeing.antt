@@ -1,7 +1,7 @@
 -- The row of the block that a call names, and what a free and an enquiry for a size make of it.
 -- Assumes nothing.
 use mathlib.Core.Path.{_≡_, sym, ap, _∙_, subst}
-use mathlib.Core.Bool.{Bool, true, false}
+use mathlib.Core.Bool.{true, false}
 use mathlib.Core.List.{List}
 use mathlib.Core.Option.{none, some}
 use Prim.Native.Nat.{ℕ, _+_, _*_, _-_, _/_, _%_, _≤_, _<_}
@@ -31,7 +31,7 @@ use Rattle.segments.proofs.Releasing.{release-rows}
 use Rattle.heap.specs.Stored.{Stored, handed, store, configOf, stateIn}
 use Rattle.heap.specs.Valid.{valid}
 use Rattle.heap.specs.Promises.{FreeDone, BlockSizeDone}
-use Rattle.heap.specs.Steps.{segmentOrder, LookedUp, updatedOf}
+use Rattle.heap.specs.Steps.{segmentOrder, BlockRow, LookedUp, updatedOf}
 use Rattle.heap.proofs.Conditions.{valid-conditions}
 use Rattle.heap.proofs.ValidStored.{valid-map, valid-kept}
 use Rattle.heap.proofs.Changing.{bounds, stored-changed}
@@ -61,6 +61,14 @@ module _ (r : Heap) (ws : List ℕ) where
   -- A row that was found is in use.
   pub looked-row : (x : ℕ) (p : Order Refusal) (l : Lookup) → LookedUp p r ws x l → (i : ℕ) → l ≡ lookup.Row i → i < r .rows
   looked-row x p l f i q = let d : LookedUp p r ws x (lookup.Row i) = subst (LookedUp p r ws x) q f in d .1 .inUse
+
+-- A row that has the block at x is live and begins there.
+module _ {r : Heap} {ws : List ℕ} {x i : ℕ} (b : BlockRow r ws x i) where
+  pub row-live : isLive (segmentAt ws i) ≡ true
+  row-live = first-picked (λ (b : Segment). eqb (offset b) x) isLive (segmentsIn (r .rows) ws) (segmentAt ws i) (b .block)
+
+  pub row-at : offset (segmentAt ws i) ≡ x
+  row-at = eqb-true _ x (first-some (λ (b : Segment). eqb (offset b) x) (blocksIn (r .rows) ws) (segmentAt ws i) (b .block))
 
 module _ (r : Heap) (ws : List ℕ) (o x : ℕ) where
   abbrev blocks : List Segment
@@ -159,10 +167,8 @@ module _ (r : Heap) (ws : List ℕ) (o x : ℕ) where
         -- The rows afterwards are those of the other blocks.
         rows : released i (segmentsIn (r .rows) ws) ≡ mapOf (configOf r) (without x blocks)
         rows =
-            let starts : Segment → Bool = λ (b : Segment). eqb (offset b) x in
-            let live : isLive (segmentAt ws i) ≡ true = first-picked starts isLive (segmentsIn (r .rows) ws) (segmentAt ws i) (found .1 .block) in
-            let at : offset (segmentAt ws i) ≡ x = eqb-true _ x (first-some starts blocks (segmentAt ws i) (found .1 .block)) in
-            release-rows (configOf r) (r .rows) ws i (found .1 .inUse) (valid-map r ws (good .valid)) live ∙ ap (λ (k : ℕ). mapOf (configOf r) (without k blocks)) at
+            release-rows (configOf r) (r .rows) ws i (found .1 .inUse) (valid-map r ws (good .valid)) (row-live (found .1))
+            ∙ ap (λ (k : ℕ). mapOf (configOf r) (without k blocks)) (row-at (found .1))
 
         few : rowsOf (configOf r) (without x blocks) ≤ r .capacity
         few = keep-others (configOf r) (stateIn r ws) kept x .rows
@@ -189,7 +195,7 @@ module _ (r : Heap) (ws : List ℕ) (o x : ℕ) where
               → FreeDone r ws arena o x (record { freed = freed.Bytes k; heap = h }) after cleared
           free-row m after w h used u n k b cleared v a z =
               let t : handed (updatedOf r m used) after ≡ store (configOf r) (releasing (stateIn r ws) x) =
-              stored-changed r ws (good .valid) (without x blocks) (released i (segmentsIn (r .rows) ws)) m used after rows few (omega (arith, free-left)) w in
+              stored-changed r ws (good .valid) (without x blocks) (released i (segmentsIn (r .rows) ws)) m used after rows (omega (arith, free-left)) w in
               record {
                 answer = rw (found .0, freed-block, b);
                 numbered = rw (found .0, freed-block, b);

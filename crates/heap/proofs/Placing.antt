@@ -187,7 +187,7 @@ module _ (r : Heap) (ws : List ℕ) (o n a : ℕ) where
 
       left : (used : ℕ) → used ≡ r .used + b .length → handed (updatedOf r m used) after ≡ afterAllocAligned (handed r ws) o n a
       left used u =
-          stored-changed r ws checked (insert b (blocksIn (r .rows) ws)) _ m used after map-is rows-few
+          stored-changed r ws checked (insert b (blocksIn (r .rows) ws)) _ m used after map-is
           (omega (arith, valid-conditions r ws checked .used, total-insert (λ (x : Segment). x .length) b (blocksIn (r .rows) ws))) w
           ∙ ap (λ (x : Segment). store (configOf r) (changed (stateIn r ws) (insert x (blocksIn (r .rows) ws)))) (is (configOf r))
           ∙ rw (d .0, fit-at (configOf r) (stateIn r ws) o n a s (d .1 .lowest))

@@ -11,6 +11,7 @@ use Rattle.heap.specs.declared.Heap.{Heap}
 use Rattle.heap.specs.declared.Initialized.{Initialized}
 use Rattle.heap.specs.declared.Allocated.{Allocated}
 use Rattle.heap.specs.declared.Released.{Released}
+use Rattle.heap.specs.declared.Reallocated.{Reallocated}
 use Rattle.model.specs.declared.Plan.{Plan}
 use Rattle.model.specs.declared.BlockSize.{BlockSize}
 use Rattle.model.specs.declared.Totals.{Totals}
@@ -38,6 +39,14 @@ pub record FreeDone (r : Heap) (words bytes : List ℕ) (o x : ℕ) (out : Relea
   pub heap : out .heap ≡ calls.afterFree (handed r words) bytes o x .heap
   pub table : wordsAfter ≡ calls.afterFree (handed r words) bytes o x .words
   pub arena : bytesAfter ≡ calls.arenaAfterFree (handed r words) bytes o x
+
+-- A resize by owner o of the block at x to n bytes, handed the arena's bytes.
+pub record ReallocDone (r : Heap) (words bytes : List ℕ) (o x n : ℕ) (out : Reallocated) (wordsAfter bytesAfter : List ℕ) : Type 0 where
+  pub answer : out .resized ≡ calls.realloc (handed r words) bytes o x n
+  pub numbered : numbers.resizedNumbered (out .resized) ≡ calls.numberedRealloc (handed r words) bytes o x n
+  pub heap : out .heap ≡ calls.afterRealloc (handed r words) bytes o x n .heap
+  pub table : wordsAfter ≡ calls.afterRealloc (handed r words) bytes o x n .words
+  pub arena : bytesAfter ≡ calls.arenaAfterRealloc (handed r words) bytes o x n
 
 -- The enquiry by owner o for the size of the block at x.
 pub record BlockSizeDone (r : Heap) (words : List ℕ) (o x : ℕ) (out : BlockSize) : Type 0 where

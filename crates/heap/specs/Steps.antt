@@ -9,7 +9,7 @@ use lib.Dec.{leb, ltb, eqb}
 use lib.ListN.{length, getD, drop}
 use Rattle.model.specs.Choose.{both, every}
 use Rattle.model.specs.Quantities.{within, owners, inRange, quota}
-use Rattle.model.specs.Allocation.{needed, lowestStart, blockAt}
+use Rattle.model.specs.Allocation.{needed, lowestStart, block, blockAt, refit}
 use Rattle.model.specs.SegmentMap.{isFree}
 use Rattle.model.specs.Reasons.{notAligned}
 use Rattle.model.specs.Orders.{Order, firstReason}
@@ -86,6 +86,16 @@ pub record BlockRow (r : Heap) (ws : List ℕ) (x row : ℕ) : Type 0 where
 abbrev pub LookedUp : Order Refusal → Heap → List ℕ → ℕ → Lookup → Type 0
 LookedUp order r ws x (lookup.Refused why) = firstReason order ≡ some why
 LookedUp order r ws x (lookup.Row row) = (firstReason order ≡ none) × BlockRow r ws x row
+
+-- Where the block at x is with n bytes requested by owner o: the row has the block at x, and the start is the resized block's.
+pub record Refitted (r : Heap) (ws : List ℕ) (o x n row start : ℕ) : Type 0 where
+  pub old : BlockRow r ws x row
+  pub new : refit (configOf r) (blocksIn (r .rows) ws) o x n ≡ some (block (configOf r) o n start)
+
+-- What is decided by an order of a resize of the block at x to n bytes, not 0: why it is refused, or the row of that block and the start of the resized one.
+abbrev pub ResizeDecided : Order Refusal → Heap → List ℕ → ℕ → ℕ → ℕ → Place → Type 0
+ResizeDecided order r ws o x n (place.Refused why) = firstReason order ≡ some why
+ResizeDecided order r ws o x n (place.At row start) = (firstReason order ≡ none) × Refitted r ws o x n row start
 
 -- The record with other rows in use and other granules used: the peak is raised to those if they are more.
 abbrev pub updatedOf : Heap → ℕ → ℕ → Heap

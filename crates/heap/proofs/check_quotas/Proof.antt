@@ -1,7 +1,9 @@
 -- `heap::check_quotas` meets its contract.
 -- Assumes nothing.
+use mathlib.Core.Path.{sym, _∙_}
 use native.Mathlib.Omega.{arith}
 use borrow.Author.Needs.{needs}
+use Rattle.model.proofs.Choosing.{tests}
 use Rattle.heap.proofs.Asking.{owner-least, owner-index, blocks-reached, granules-exceed, within-limits}
 use Rattle.heap.proofs.check_quotas.Statement.{statement}
 use Rattle.heap.proofs.check_quotas.Tie as tie
@@ -29,35 +31,37 @@ returns c ws e good =
     let p = c .before .before .before in
     blocks-reached _ ws _ e good (p .args .owner) (p .pre) (p .args .size) (omega arith)
 
+mul-exceeds : tie.Need-mul-exceeds
+mul-exceeds c = search needs
+
+element-copy-out-exceeds : tie.Need-element-copy-out-exceeds
+element-copy-out-exceeds c = owner-index _ (c .before .before .before .pre)
+
+mul-exceeds-2 : tie.Need-mul-exceeds-2
+mul-exceeds-2 c = search needs
+
+element-copy-out-exceeds-2 : tie.Need-element-copy-out-exceeds-2
+element-copy-out-exceeds-2 c = owner-index _ (c .before .before .before .before .pre)
+
 granules-for-requires : tie.Need-granules-for-requires
 granules-for-requires c κs = search needs
 
-mul-most : tie.Need-mul-most
-mul-most c = search needs
-
-element-copy-out-most : tie.Need-element-copy-out-most
-element-copy-out-most c = owner-index _ (c .before .before .before .before .pre)
+exceeds-requires : tie.Need-exceeds-requires
+exceeds-requires c κs = search needs
 
 returns-2 : tie.Need-returns-2
 returns-2 c ws e good =
-    let p = c .before .before .before .before .before .before in
-    granules-exceed _ ws _ e good (p .args .owner) (p .pre) (p .args .size) (omega arith) (omega arith)
-
-mul-if3 : tie.Need-mul-if3
-mul-if3 c = search needs
-
-element-copy-out-if3 : tie.Need-element-copy-out-if3
-element-copy-out-if3 c = owner-index _ (c .before .before .before .before .before .before .pre)
+    let p = c .before .before .before .before .before .before .before .before in
+    let x = sym (c .before .exceeds .ensures) ∙ c .if2 .taken in
+    granules-exceed _ ws _ e good (p .args .owner) (p .pre) (p .args .size) (omega arith)
+    (omega tests)
 
 returns-3 : tie.Need-returns-3
 returns-3 c ws e good =
     let p = c .before .before .before .before .before .before .before .before in
-    granules-exceed _ ws _ e good (p .args .owner) (p .pre) (p .args .size) (omega arith) (omega arith)
-
-returns-4 : tie.Need-returns-4
-returns-4 c ws e good =
-    let p = c .before .before .before .before .before .before .before .before in
-    within-limits _ ws _ e good (p .args .owner) (p .pre) (p .args .size) (omega arith) (omega arith)
+    let x = sym (c .before .exceeds .ensures) ∙ c .if2 .left in
+    within-limits _ ws _ e good (p .args .owner) (p .pre) (p .args .size) (omega arith)
+    (omega tests)
 
 pub check-quotas-spec : {M : Type 1} → statement M
 check-quotas-spec =
@@ -70,11 +74,11 @@ check-quotas-spec =
     mul-if1-2
     element-copy-out-if1-2
     returns
+    mul-exceeds
+    element-copy-out-exceeds
+    mul-exceeds-2
+    element-copy-out-exceeds-2
     granules-for-requires
-    mul-most
-    element-copy-out-most
+    exceeds-requires
     returns-2
-    mul-if3
-    element-copy-out-if3
-    returns-3
-    returns-4)
+    returns-3)

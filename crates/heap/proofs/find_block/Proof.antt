@@ -11,12 +11,9 @@ use Rattle.heap.proofs.Freeing.{free-decided}
 use Rattle.heap.proofs.find_block.Statement.{statement}
 use Rattle.heap.proofs.find_block.Tie as tie
 
-is-valid-requires : tie.Need-is-valid-requires
-is-valid-requires c κs = search needs
-
 returns : tie.Need-returns
 unfolding freeOrder
-returns c = rw (sym (c .before .is-valid .ensures) ∙ not-true _ (c .if1 .taken))
+returns c = rw (sym (c .before .before .before .pre) ∙ not-true _ (c .if1 .taken))
 
 cast-if2 : tie.Need-cast-if2
 cast-if2 c = search needs
@@ -27,17 +24,17 @@ mul-if2 c = search needs
 returns-2 : tie.Need-returns-2
 unfolding freeOrder
 returns-2 c =
-    let a = c .before .before .before .before .before .before .args in
-    rw (sym (c .before .before .before .is-valid .ensures) ∙ not-false _ (c .before .before .if1 .left), ne-eqb (length (a .arena .now)) (16 * a .heap .granules) (λ z. omega arith))
+    let p = c .before .before .before .before .before in
+    let a = p .args in
+    rw (sym (p .pre) ∙ not-false _ (c .before .before .if1 .left), ne-eqb (length (a .arena .now)) (16 * a .heap .granules) (λ z. omega arith))
 
 find-row-requires : tie.Need-find-row-requires
-find-row-requires c κs = sym (c .before .before .before .is-valid .ensures) ∙ not-false _ (c .before .before .if1 .left)
+find-row-requires c κs = sym (c .before .before .before .before .before .pre) ∙ not-false _ (c .before .before .if1 .left)
 
 returns-3 : tie.Need-returns-3
 returns-3 c =
-    free-decided _ _ _ _ _ (sym (c .before .before .before .before .is-valid .ensures) ∙ not-false _ (c .before .before .before .if1 .left)) (omega arith) (c .find-row .result) (c .find-row .ensures)
+    free-decided _ _ _ _ _ (sym (c .before .before .before .before .before .before .pre) ∙ not-false _ (c .before .before .before .if1 .left)) (omega arith) (c .find-row .result) (c .find-row .ensures)
 
 pub find-block-spec : {M : Type 1} → statement M
 find-block-spec =
-    tie.close
-    (tie.spec is-valid-requires returns cast-if2 mul-if2 returns-2 find-row-requires returns-3)
+    tie.close (tie.spec returns cast-if2 mul-if2 returns-2 find-row-requires returns-3)

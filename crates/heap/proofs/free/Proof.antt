@@ -7,8 +7,11 @@ use Rattle.heap.proofs.Freeing.{row-words, row-bytes, free-not, free-fo
 use Rattle.heap.proofs.free.Statement.{statement}
 use Rattle.heap.proofs.free.Tie as tie
 
+is-valid-requires : tie.Need-is-valid-requires
+is-valid-requires c κs = search needs
+
 find-block-requires : tie.Need-find-block-requires
-find-block-requires c κs = search needs
+find-block-requires c κs = c .before .before .is-valid .ensures
 
 enum-known-found : tie.Need-enum-known-found
 enum-known-found c = search needs
@@ -86,6 +89,7 @@ pub free-spec : {M : Type 1} → statement M
 free-spec =
     tie.close
     (tie.spec
+    is-valid-requires
     find-block-requires
     enum-known-found
     enum-known-found-2
