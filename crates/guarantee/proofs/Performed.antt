@@ -7,7 +7,7 @@ use Rattle.model.specs.Rules.{initConfig}
 use Rattle.model.specs.Run.{after, history}
 use Rattle.heap.specs.Stored.{Stored, handed}
 use Rattle.heap.specs.Calls.{afterInit, allocAligned}
-use Rattle.guarantee.specs.Lists.{Call, alloc, alloc-aligned, free, block-size, totals, holding, Answer, execute}
+use Rattle.guarantee.specs.Lists.{Call, alloc, alloc-aligned, free, realloc, block-size, totals, holding, Answer, execute}
 use Rattle.guarantee.specs.Guarantee.{stateAfter, storedAfter, Served, Guaranteed}
 use Rattle.guarantee.specs.Performed.{Promised, Entry, Performed, callsOf, Demand3Performed}
 use Rattle.guarantee.proofs.Guarantee.{guarantee}
@@ -17,6 +17,7 @@ pub promised : (s : Stored) (k : Call) (r : Answer k) (t : Stored) → Promised 
 promised s (alloc o n) r t d = (d .answer, λ i. record { heap = d .heap i; words = d .table i })
 promised s (alloc-aligned o n a) r t d = (d .answer, λ i. record { heap = d .heap i; words = d .table i })
 promised s (free arena o x) r t d = (d .1 .answer, λ i. record { heap = d .1 .heap i; words = d .1 .table i })
+promised s (realloc arena o x n) r t d = (d .1 .answer, λ i. record { heap = d .1 .heap i; words = d .1 .table i })
 promised s (block-size o x) r t d = (d .0 .answer, d .1)
 promised s totals r t d = (d .0 .answer, d .1)
 promised s (holding o) r t d = (d .0 .answer, d .1)

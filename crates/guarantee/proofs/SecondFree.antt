@@ -1,4 +1,4 @@
--- A second free gets 17 while its place is free: a law over a history, in which a block was freed and nothing was lent over its place since.
+-- A second free gets 17 while its place is free: a law over a history, in which a block was freed and nothing was lent over its place since; and so does a return of what a resize gave back.
 -- Assumes nothing.
 use mathlib.Core.Path.{_≡_, refl, ap, sym, _∙_, subst}
 use mathlib.Core.Bool.{Bool, true, false, not}
@@ -6,28 +6,31 @@ use mathlib.Core.List.{List, [], _∷_}
 use mathlib.Core.Option.{none, some}
 use Prim.Native.Nat.{ℕ, _+_, _*_, _/_, _%_, _≤_, _<_}
 use native.Mathlib.Omega.{arith}
+use lib.Dec.{eqb}
 use lib.ListN.{replicate}
 use borrow.Author.Tests.{not-true}
 use Rattle.model.specs.Choose.{every}
 use Rattle.model.specs.Quantities.{isOwner, Config, inRange}
-use Rattle.model.specs.Allocation.{State, fresh, block, bytes, hasGranule, blockOver}
+use Rattle.model.specs.Allocation.{State, fresh, block, blockAt, bytes, hasGranule, blockOver, without}
 use Rattle.model.specs.Arena.{hasRecordedLength}
-use Rattle.model.specs.Orders.{firstReason, allocOrder, freeOrder, blockSizeOrder, blockOrder, initOrder}
+use Rattle.model.specs.Orders.{firstReason, allocOrder, freeOrder, reallocOrder, blockSizeOrder, blockOrder, initOrder}
 use Rattle.model.specs.Rules as rules
-use Rattle.model.specs.Rules.{initConfig}
+use Rattle.model.specs.Rules.{initConfig, asResize}
 use Rattle.model.specs.Run.{after, history}
-use Rattle.model.proofs.Choosing.{splitOption, every-head, every-tail}
+use Rattle.model.proofs.Choosing.{split, splitOption, tests, every-head, every-tail}
 use Rattle.model.proofs.Offsets.{over-insert, over-only, over-without, in-granule, Begins, begins}
 use Rattle.model.proofs.Allocated.{Allocated, allocated}
 use Rattle.model.proofs.Released.{Released, answered}
+use Rattle.model.proofs.Refitted.{free-refuses, Accepted, accepted}
+use Rattle.model.proofs.ZeroSize.{zero-order, zero-answer}
 use Rattle.model.proofs.Kept.{Kept}
 use Rattle.model.proofs.Asked.{free-asks, size-asks, free-memory}
 use Rattle.heap.specs.Stored.{Stored, handed, store}
 use Rattle.heap.specs.Valid.{valid}
 use Rattle.heap.specs.Promises.{InitDone}
-use Rattle.heap.specs.Calls.{init, afterInit, free, afterFree, blockSize}
+use Rattle.heap.specs.Calls.{init, afterInit, free, afterFree, realloc, afterRealloc, blockSize, isValid, config, state}
 use Rattle.heap.proofs.Making.{init-range, init-leaves, fresh-kept}
-use Rattle.guarantee.specs.Lists.{Call, alloc, alloc-aligned, free as return, block-size, totals, holding, Answer, byRules, execute}
+use Rattle.guarantee.specs.Lists.{Call, alloc, alloc-aligned, free as return, realloc as resize, block-size, totals, holding, Answer, byRules, execute}
 use Rattle.guarantee.specs.Guarantee.{stateAfter, storedAfter}
 use Rattle.guarantee.specs.Performed.{Entry, Promised, Performed, callsOf}
 use Rattle.guarantee.specs.Cases.{arena, plan, small}
@@ -42,6 +45,8 @@ use Rattle.model.specs.declared.Placed.{Placed}
 use Rattle.model.specs.declared.Placed.the-variants as placed
 use Rattle.model.specs.declared.Freed.{Freed}
 use Rattle.model.specs.declared.Freed.the-variants as freed
+use Rattle.model.specs.declared.Resized.{Resized}
+use Rattle.model.specs.declared.Resized.the-variants as resized
 use Rattle.heap.specs.declared.Initialized.{Initialized}
 use Rattle.model.specs.declared.BlockSize.the-variants as size
 
@@ -51,11 +56,18 @@ module _ (c : Config) (i : ℕ) where
   lentBy o n (placed.At x) = hasGranule i (block c o n (x / 16))
   lentBy o n (placed.Refused r) = false
 
-  -- A call with its answer is lent granule i; only allocations are lent any.
+  -- A resize to n bytes that is answered so is lent granule i: the block that is left has it, whether or not it had it before.
+  abbrev pub leftBy : ℕ → ℕ → Resized → Bool
+  leftBy o n (resized.At y) = hasGranule i (block c o n (y / 16))
+  leftBy o n (resized.Freed k) = false
+  leftBy o n (resized.Refused r) = false
+
+  -- A call with its answer is lent granule i; only allocations and resizes are lent any.
   abbrev pub isLent : (k : Call) → Answer k → Bool
   isLent (alloc o n) r = lentBy o n r
   isLent (alloc-aligned o n a) r = lentBy o n r
   isLent (return arena o x) r = false
+  isLent (resize arena o x n) r = leftBy o n r
   isLent (block-size o x) r = false
   isLent totals r = false
   isLent (holding o) r = false
@@ -74,11 +86,24 @@ module _ (c : Config) (i : ℕ) where
       rw (q, r .fits) (over-insert i (block c o n (r .start)) (h .blocks) (rw (q, r .fits, z) at l) e))
       (λ r q. rw q e)
 
+  -- and so does a resize that is not refused, where no other block has it
+  resize-stays : (h : State) (arena : List ℕ) (o x n : ℕ) → firstReason (reallocOrder true c h arena o x n) ≡ none
+      → leftBy o n (rules.realloc true c h arena o x n) ≡ false → blockOver i (without x (h .blocks)) ≡ none
+      → blockOver i (rules.afterRealloc true c h arena o x n .blocks) ≡ none
+  resize-stays h arena o x n q l e =
+      split (eqb n 0)
+      (λ z. rw (q, z) e)
+      (λ z. let r : Accepted true c h arena o x n = accepted true c h arena o x n (omega tests) q in
+      let w : (16 * r .place .start) / 16 ≡ r .place .start = omega arith in
+      rw (q, z, r .place .fits) (over-insert i (block c o n (r .place .start)) (without x (h .blocks)) (rw (q, z, r .place .fits, w) at l) e))
+
   stays : (h : State) (k : Call) → isLent k (byRules c h k .0) ≡ false → blockOver i (h .blocks) ≡ none → blockOver i (byRules c h k .1 .blocks) ≡ none
   stays h (alloc o n) l e = alloc-stays h o n 16 l e
   stays h (alloc-aligned o n a) l e = alloc-stays h o n a l e
   stays h (return arena o x) l e =
       splitOption (firstReason (freeOrder true c h arena o x)) (λ q. rw q (over-only i _ (h .blocks) e)) (λ r q. rw q e)
+  stays h (resize arena o x n) l e =
+      splitOption (firstReason (reallocOrder true c h arena o x n)) (λ q. resize-stays h arena o x n q l (over-only i _ (h .blocks) e)) (λ r q. rw q e)
   stays h (block-size o x) l e = e
   stays h totals l e = e
   stays h (holding o) l e = e
@@ -92,13 +117,14 @@ module _ (c : Config) (i : ℕ) where
       let p : Entry → Bool = λ (e : Entry). not (isLent (e .0) (e .1)) in
       stays-free (byRules c h k .1) ks (every-tail p (k, byRules c h k .0) es n) (stays h k (not-true _ (every-head p (k, byRules c h k .0) es n)) e)
 
--- On the heap s a list of calls follows in which nothing is lent over the granule of y: after it a free of y that is lent the whole arena, and an enquiry for
--- its size, get 17, whichever owner asks.
+-- On the heap s a list of calls follows in which nothing is lent over the granule of y: after it a free of y that is lent the whole arena, an enquiry for
+-- its size, and a resize of it that is lent the whole arena get 17, whichever owner asks.
 abbrev pub Gets17 : Config → Stored → List Call → ℕ → Type 0
 Gets17 c s ks y =
     nothingLent c (y / 16) (history execute s ks) ≡ true
     → (arena : List ℕ) (o : ℕ) → hasRecordedLength c arena ≡ true → isOwner o ≡ true
     → (free (storedAfter s ks) arena o y ≡ freed.Refused refusal.FreeMemory) × (blockSize (storedAfter s ks) o y ≡ size.Refused refusal.FreeMemory)
+    × ((n : ℕ) → realloc (storedAfter s ks) arena o y n ≡ resized.Refused refusal.FreeMemory)
 
 -- of a heap that is written down, in a state as every call leaves it
 module _ (c : Config) (ranged : inRange c ≡ true) (h : State) (k : Kept c h) where
@@ -113,6 +139,7 @@ module _ (c : Config) (ranged : inRange c ≡ true) (h : State) (k : Kept c h) w
       let b : firstReason (blockSizeOrder true c g o y) ≡ some refusal.FreeMemory = size-asks c g o y ∙ why in (
         ap (λ (s : Stored). free s arena o y) (stored-after c ranged h ks k) ∙ answers-same c g gk ranged (return arena o y) ∙ rw f,
         ap (λ (s : Stored). blockSize s o y) (stored-after c ranged h ks k) ∙ answers-same c g gk ranged (block-size o y) ∙ rw b,
+        λ n. ap (λ (s : Stored). realloc s arena o y n) (stored-after c ranged h ks k) ∙ answers-same c g gk ranged (resize arena o y n) ∙ rw (free-refuses true c g arena o y n refusal.FreeMemory f),
       )
 
 -- the block that is freed there
@@ -136,6 +163,28 @@ module _ (c : Config) (ranged : inRange c ≡ true) (h : State) (k : Kept c h) (
       let over : blockOver (y / 16) (byRules c h (return arena o x) .1 .blocks) ≡ none =
       rw (found .1) (over-without c 0 x (y / 16) (h .blocks) b (k .ordered) (found .0 .found) in-block) in
       free-17 c ranged (byRules c h (return arena o x) .1) (keep c h k (return arena o x)) ks y aligned (omega (arith, at .first, at .inside, found .2)) over
+
+-- the old place of a block that is resized there
+module _ (c : Config) (ranged : inRange c ≡ true) (h : State) (k : Kept c h) (arena : List ℕ) (o x n y : ℕ) (e : rules.realloc true c h arena o x n ≡ resized.At y) where
+  granted : firstReason (reallocOrder true c h arena o x n) ≡ none
+  granted =
+      splitOption (firstReason (reallocOrder true c h arena o x n))
+      (λ q. q)
+      (λ r q. let w : resized.Refused r ≡ resized.At y = rw q at e in let z : _≡_ {A = ℕ} 0 1 = cc in absurd (omega arith))
+
+  resized-17 : (ks : List Call) (b : Segment) → blockAt x (h .blocks) ≡ some b → (z : ℕ) → x ≤ z → z < x + bytes b → z % 16 ≡ 0
+      → hasGranule (z / 16) (block c o n (y / 16)) ≡ false → Gets17 c (store c (byRules c h (resize arena o x n) .1)) ks z
+  resized-17 ks b found z low high aligned clear =
+      let at : Begins c 0 x (h .blocks) b = begins c 0 x (h .blocks) b (k .ordered) found in
+      let in-block : hasGranule (z / 16) b ≡ true = in-granule (z / 16) b (omega (arith, at .first)) (omega (arith, at .first)) in
+      let over : blockOver (z / 16) (byRules c h (resize arena o x n) .1 .blocks) ≡ none =
+      resize-stays c (z / 16) h arena o x n granted (ap (leftBy c (z / 16) o n) e ∙ clear) (over-without c 0 x (z / 16) (h .blocks) b (k .ordered) found in-block) in
+      free-17 c ranged (byRules c h (resize arena o x n) .1) (keep c h k (resize arena o x n)) ks z aligned (omega (arith, at .first, at .inside)) over
+
+-- what a free answers where a resize answers so
+as-free : (r : Freed) (k : ℕ) → asResize r ≡ resized.Freed k → r ≡ freed.Bytes k
+as-free (freed.Bytes j) k e = cc
+as-free (freed.Refused why) k e = let z : _≡_ {A = ℕ} 0 1 = cc in absurd (omega arith)
 
 -- After a making that is not refused, and a list of calls:
 module _ (arena words : List ℕ) (p : Plan) (done : init arena words p ≡ made.Done) (before : List Call) where
@@ -177,7 +226,29 @@ module _ (arena words : List ℕ) (p : Plan) (done : init arena words p ≡ made
     pub second-free : Gets17 (initConfig arena words p) (afterFree (storedAfter (afterInit arena words p) before) bytes o x) since x
     second-free = let f = at-first c ranged h kept bytes o x k held in freed-gets-17 x (omega arith) (f .0) (f .1)
 
--- The same of what the functions do, each keeping its promise: a making that is not refused, calls with their answers, a free of the block at x that answers k,
+  -- A resize instead, by o of the block at x to n bytes, answers y, and another list follows: each multiple of 16 in the block's old place that its new place has not,
+  -- the tail of a shorter one and all of a moved one, gets 17 for as long as nothing is lent over its granule.
+  pub resized-gets-17 : (content : List ℕ) (o x n y : ℕ) → realloc (storedAfter (afterInit arena words p) before) content o x n ≡ resized.At y → (since : List Call)
+      → (b : Segment) → blockAt x (stateAfter (initConfig arena words p) before .blocks) ≡ some b
+      → (z : ℕ) → x ≤ z → z < x + bytes b → z % 16 ≡ 0 → hasGranule (z / 16) (block (initConfig arena words p) o n (y / 16)) ≡ false
+      → Gets17 (initConfig arena words p) (afterRealloc (storedAfter (afterInit arena words p) before) content o x n) since z
+  resized-gets-17 content o x n y at since b found z low high aligned clear =
+      let left : afterRealloc (storedAfter (afterInit arena words p) before) content o x n ≡ store c (byRules c h (resize content o x n) .1) =
+      ap (λ (s : Stored). afterRealloc s content o x n) stored ∙ leaves-same c h kept ranged (resize content o x n) in
+      let answer : rules.realloc true c h content o x n ≡ resized.At y =
+      sym (answers-same c h kept ranged (resize content o x n)) ∙ ap (λ (s : Stored). realloc s content o x n) (sym stored) ∙ at in
+      subst (λ (s : Stored). Gets17 c s since z) (sym left) (resized-17 c ranged h kept content o x n y answer since b found z low high aligned clear)
+
+  -- A resize to size 0 that answers k is a return: each multiple of 16 in the block's place gets 17, as after a free.
+  pub zero-gets-17 : (content : List ℕ) (o x k : ℕ) → realloc (storedAfter (afterInit arena words p) before) content o x 0 ≡ resized.Freed k → (since : List Call)
+      → (y : ℕ) → x ≤ y → y < x + k → y % 16 ≡ 0
+      → Gets17 (initConfig arena words p) (afterRealloc (storedAfter (afterInit arena words p) before) content o x 0) since y
+  zero-gets-17 content o x k e since y low high aligned =
+      let s : Stored = storedAfter (afterInit arena words p) before in
+      rw (zero-order (isValid s) (config s) (state s) content o x)
+      (freed-gets-17 content o x k (as-free _ k (sym (zero-answer (isValid s) (config s) (state s) content o x) ∙ e)) since y low high aligned)
+
+-- The same of a second free as the functions do it, each keeping its promise: a making that is not refused, calls with their answers, a free of the block at x that answers k,
 -- and calls whose answers lend nothing over the granule of x; the next free of x answers 17.
 pub second-free-performed : (arena words : List ℕ) (p : Plan) (out : Initialized) (arenaLeft wordsLeft : List ℕ) → InitDone arena words p out arenaLeft wordsLeft → out .made ≡ made.Done
     → (es : List Entry) (s : Stored) → Performed (handed (out .heap) wordsLeft) es s

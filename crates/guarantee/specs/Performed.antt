@@ -9,19 +9,20 @@ use Rattle.model.specs.Rules.{initConfig}
 use Rattle.model.specs.Run.{history}
 use Rattle.heap.specs.Stored.{Stored, handed, store}
 use Rattle.heap.specs.Calls.{afterInit}
-use Rattle.heap.specs.Promises.{InitDone, AllocDone, FreeDone, BlockSizeDone, TotalsDone, HoldingDone}
-use Rattle.guarantee.specs.Lists.{Call, alloc, alloc-aligned, free, block-size, totals, holding, Answer, byRules}
+use Rattle.heap.specs.Promises.{InitDone, AllocDone, FreeDone, ReallocDone, BlockSizeDone, TotalsDone, HoldingDone}
+use Rattle.guarantee.specs.Lists.{Call, alloc, alloc-aligned, free, realloc, block-size, totals, holding, Answer, byRules}
 use Rattle.guarantee.specs.Guarantee.{stateAfter, Entitled, Served, Guaranteed}
 use Rattle.heap.specs.declared.Initialized.{Initialized}
 use Rattle.model.specs.declared.Plan.{Plan}
 use Rattle.model.specs.declared.Made.the-variants as made
 use Rattle.model.specs.declared.Placed.{Placed}
 
--- Handed s, the function of a call answers r and leaves t: its promise. (A free leaves some bytes in the arena too; an enquiry leaves what it found.)
+-- Handed s, the function of a call answers r and leaves t: its promise. (A free and a resize leave some bytes in the arena too; an enquiry leaves what it found.)
 abbrev pub Promised : Stored → (k : Call) → Answer k → Stored → Type 0
 Promised s (alloc o n) r t = AllocDone (s .heap) (s .words) o n 16 (record { placed = r; heap = t .heap }) (t .words)
 Promised s (alloc-aligned o n a) r t = AllocDone (s .heap) (s .words) o n a (record { placed = r; heap = t .heap }) (t .words)
 Promised s (free arena o x) r t = (left : List ℕ) × FreeDone (s .heap) (s .words) arena o x (record { freed = r; heap = t .heap }) (t .words) left
+Promised s (realloc arena o x n) r t = (left : List ℕ) × ReallocDone (s .heap) (s .words) arena o x n (record { resized = r; heap = t .heap }) (t .words) left
 Promised s (block-size o x) r t = BlockSizeDone (s .heap) (s .words) o x r × (t ≡ s)
 Promised s totals r t = TotalsDone (s .heap) (s .words) r × (t ≡ s)
 Promised s (holding o) r t = HoldingDone (s .heap) (s .words) o r × (t ≡ s)
