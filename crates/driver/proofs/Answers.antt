@@ -1,7 +1,7 @@
 -- The heap's record and the core's answers, to the proofs of this layer: their machine values, and what is known of these.
 --     heapVal, heapVals       the machine value of a heap.        pairTy, pairVal       the MIR type and the machine value of a struct of an answer and a heap
 --     Answer           an answer, with what a walk asks of it.        enum-answer       of any enum that owns only facts.        block-size, totals, holding       the enquiries'
---     Pair             what a mutating call of the core answers: a struct of an answer and the new heap, likewise.        struct-pair       of any struct whose fields are these.        placed, freed     an allocation's and a free's
+--     Pair             what a mutating call of the core answers: a struct of an answer and the new heap, likewise.        struct-pair       of any struct whose fields are these.        placed, freed, resized     an allocation's, a free's and a resize's
 -- Assumes `Given`.
 use mathlib.Core.Path.{_≡_, refl, _∙_, ap, subst}
 use mathlib.Core.List.{[], _∷_, List}
@@ -29,10 +29,14 @@ use Rattle.heap.proofs.Allocated as Allocated
 use Rattle.heap.proofs.Allocated.Laws as Allocated′
 use Rattle.heap.proofs.Released as Released
 use Rattle.heap.proofs.Released.Laws as Released′
+use Rattle.heap.proofs.Reallocated as Reallocated
+use Rattle.heap.proofs.Reallocated.Laws as Reallocated′
 use Rattle.model.proofs.Placed as Placed
 use Rattle.model.proofs.Placed.Laws as Placed′
 use Rattle.model.proofs.Freed as Freed
 use Rattle.model.proofs.Freed.Laws as Freed′
+use Rattle.model.proofs.Resized as Resized
+use Rattle.model.proofs.Resized.Laws as Resized′
 use Rattle.model.proofs.BlockSize as BlockSize
 use Rattle.model.proofs.BlockSize.Laws as BlockSize′
 use Rattle.model.proofs.Totals as Totals
@@ -117,6 +121,11 @@ module _ {M : Type 1} (𝓤 : URA M) (H : Heap 𝓤) (A : Atoms 𝓤) where
     abbrev pub freed : Pair
     freed =
         struct-pair (enum-answer Freed.the-type Freed′.the-laws Freed′.the-plain tt) Released.the-type Released′.the-laws Released′.the-plain (λ r. r .freed) (λ r. r .heap) (λ p h. record { freed = p; heap = h })
+        (λ r. refl) (λ p h. refl) refl (λ r all. (all .0, all .1 .0)) (λ p h is is′. (is, (is′, tt)))
+
+    abbrev pub resized : Pair
+    resized =
+        struct-pair (enum-answer Resized.the-type Resized′.the-laws Resized′.the-plain tt) Reallocated.the-type Reallocated′.the-laws Reallocated′.the-plain (λ r. r .resized) (λ r. r .heap) (λ p h. record { resized = p; heap = h })
         (λ r. refl) (λ p h. refl) refl (λ r all. (all .0, all .1 .0)) (λ p h is is′. (is, (is′, tt)))
 
     abbrev pub block-size : Answer

@@ -1,13 +1,15 @@
 // The drivers' layer: the heap's record is lent, and updated where it stands. Each call does what the one of `heap` with the same name does: the same
 // answer, and the same record, words and bytes afterwards. Making is not here, since there is no record yet to lend.
-ghost use Rattle.heap.specs.Promises.{AllocDone, FreeDone, BlockSizeDone, TotalsDone, HoldingDone};
+ghost use Rattle.heap.specs.Promises.{AllocDone, FreeDone, ReallocDone, BlockSizeDone, TotalsDone, HoldingDone};
 use heap::Allocated;
 use heap::Heap;
+use heap::Reallocated;
 use heap::Released;
 use model::BlockSize;
 use model::Freed;
 use model::Holding;
 use model::Placed;
+use model::Resized;
 use model::Totals;
 
 // Lends `size` bytes to `owner` on a boundary of 16 bytes, and answers the byte offset.
@@ -41,6 +43,22 @@ pub fn free(heap: &mut Heap, table: &mut [u32], arena: &mut [u8], owner: u32, of
     let out = heap::free(*heap, table, arena, owner, offset);
     *heap = out.heap;
     out.freed
+}
+
+// Resizes the block of `owner` at byte `offset` to `size` bytes, and answers the byte offset it has then; to size 0 it is a free and answers as one.
+pub fn realloc(
+    heap: &mut Heap,
+    table: &mut [u32],
+    arena: &mut [u8],
+    owner: u32,
+    offset: u32,
+    size: u32,
+) -> Resized
+    ensures { λ r. ⌜ ReallocDone (now (heap .entry)) (now (table .entry)) (now (arena .entry)) owner offset size (record { resized = r; heap = now (heap .exit) }) (now (table .exit)) (now (arena .exit)) ⌝ }
+{
+    let out = heap::realloc(*heap, table, arena, owner, offset, size);
+    *heap = out.heap;
+    out.resized
 }
 
 // Answers the bytes requested and the bytes held of the block of `owner` at byte `offset`.
@@ -108,6 +126,24 @@ pub fn free_by_value(
     let freed = free(&mut h, table, arena, owner, offset);
     Released {
         freed: freed,
+        heap: h,
+    }
+}
+
+pub fn realloc_by_value(
+    heap: Heap,
+    table: &mut [u32],
+    arena: &mut [u8],
+    owner: u32,
+    offset: u32,
+    size: u32,
+) -> Reallocated
+    ensures { λ r. ⌜ ReallocDone heap (now (table .entry)) (now (arena .entry)) owner offset size r (now (table .exit)) (now (arena .exit)) ⌝ }
+{
+    let mut h = heap;
+    let resized = realloc(&mut h, table, arena, owner, offset, size);
+    Reallocated {
+        resized: resized,
         heap: h,
     }
 }
