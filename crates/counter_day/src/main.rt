@@ -1,56 +1,32 @@
 // A counter's day over the drivers' layer: two checkout tasks (owners 1 and 2) and the modem (owner 3) borrow from one heap. Each call is printed with
-// its answer, `ok` and the values or `no` and its number. What the papers' rules give stands in `stdout`, beside `src/`.
+// its answer, `ok` and the values or `no` and its number, and some bytes of the arena as they are found. What the papers' rules give stands in `stdout`,
+// beside `src/`.
 use heap::Heap;
 use model::BlockSize;
-use model::Freed;
 use model::Holding;
 use model::Made;
-use model::Placed;
 use model::Plan;
-use model::Refusal;
+use model::Resized;
 use model::Totals;
-
-fn print_value(name: &[u8], n: u32) {
-    io::write_all(1, name);
-    io::print_decimal(1, n as u64);
-}
+use printing::end_line;
+use printing::print_freed;
+use printing::print_no;
+use printing::print_ok;
+use printing::print_placed;
+use printing::print_refusal;
+use printing::print_value;
 
 fn print_task(owner: u32) {
     if owner == 3 {
         io::write_all(1, b"modem");
     } else {
-        print_value(b"checkout ", owner);
-    }
-}
-
-fn end_line() {
-    io::write_all(1, b"\n");
-}
-
-fn print_ok(n: u32) {
-    print_value(b": ok ", n);
-    end_line();
-}
-
-fn print_no(number: u32) {
-    print_value(b": no ", number);
-    end_line();
-}
-
-fn print_refusal(why: Refusal) {
-    print_no(model::number(why));
-}
-
-fn print_placed(placed: Placed) {
-    match placed {
-        Placed::At(offset) => print_ok(offset),
-        Placed::Refused(why) => print_refusal(why),
+        print_value(b"checkout ", owner as u64);
     }
 }
 
 fn alloc(heap: Heap, table: &mut [u32; 68], owner: u32, size: u32) -> Heap {
     print_task(owner);
-    print_value(b" alloc ", size);
+    print_value(b" alloc ", size as u64);
     let out = driver::alloc_by_value(heap, table, owner, size);
     let placed = out.placed;
     print_placed(placed);
@@ -59,8 +35,8 @@ fn alloc(heap: Heap, table: &mut [u32; 68], owner: u32, size: u32) -> Heap {
 
 fn alloc_aligned(heap: Heap, table: &mut [u32; 68], owner: u32, size: u32, align: u32) -> Heap {
     print_task(owner);
-    print_value(b" alloc ", size);
-    print_value(b" on ", align);
+    print_value(b" alloc ", size as u64);
+    print_value(b" on ", align as u64);
     let out = driver::alloc_aligned_by_value(heap, table, owner, size, align);
     let placed = out.placed;
     print_placed(placed);
@@ -69,24 +45,48 @@ fn alloc_aligned(heap: Heap, table: &mut [u32; 68], owner: u32, size: u32, align
 
 fn free(heap: Heap, table: &mut [u32; 68], arena: &mut [u8; 512], owner: u32, offset: u32) -> Heap {
     print_task(owner);
-    print_value(b" free ", offset);
+    print_value(b" free ", offset as u64);
     let out = driver::free_by_value(heap, table, arena, owner, offset);
     let freed = out.freed;
-    match freed {
-        Freed::Bytes(bytes) => print_ok(bytes),
-        Freed::Refused(why) => print_refusal(why),
+    print_freed(freed);
+    out.heap
+}
+
+fn realloc(
+    heap: Heap,
+    table: &mut [u32; 68],
+    arena: &mut [u8; 512],
+    owner: u32,
+    offset: u32,
+    size: u32,
+) -> Heap {
+    print_task(owner);
+    print_value(b" realloc ", offset as u64);
+    print_value(b" to ", size as u64);
+    let out = driver::realloc_by_value(heap, table, arena, owner, offset, size);
+    let resized = out.resized;
+    match resized {
+        Resized::At(offset) => print_ok(offset as u64),
+        Resized::Freed(bytes) => print_ok(bytes as u64),
+        Resized::Refused(why) => print_refusal(why),
     }
     out.heap
 }
 
+fn print_byte(at: u32, byte: u8) {
+    print_value(b"byte ", at as u64);
+    print_value(b": ", byte as u64);
+    end_line();
+}
+
 fn block_size(heap: Heap, table: &[u32; 68], owner: u32, offset: u32) {
     print_task(owner);
-    print_value(b" size ", offset);
+    print_value(b" size ", offset as u64);
     let size = driver::block_size_by_value(heap, table, owner, offset);
     match size {
         BlockSize::Bytes { requested, held } => {
-            print_value(b": ok requested ", requested);
-            print_value(b" held ", held);
+            print_value(b": ok requested ", requested as u64);
+            print_value(b" held ", held as u64);
             end_line();
         }
         BlockSize::Refused(why) => print_refusal(why),
@@ -99,8 +99,8 @@ fn holding(heap: Heap, table: &[u32; 68], owner: u32) {
     let holding = driver::holding_by_value(heap, table, owner);
     match holding {
         Holding::Of { blocks, bytes } => {
-            print_value(b": ok blocks ", blocks);
-            print_value(b" bytes ", bytes);
+            print_value(b": ok blocks ", blocks as u64);
+            print_value(b" bytes ", bytes as u64);
             end_line();
         }
         Holding::Refused(why) => print_refusal(why),
@@ -117,10 +117,10 @@ fn totals(heap: Heap, table: &[u32; 68]) {
             peak,
             longest,
         } => {
-            print_value(b": ok used ", used);
-            print_value(b" free ", free);
-            print_value(b" peak ", peak);
-            print_value(b" longest ", longest);
+            print_value(b": ok used ", used as u64);
+            print_value(b" free ", free as u64);
+            print_value(b" peak ", peak as u64);
+            print_value(b" longest ", longest as u64);
             end_line();
         }
         Totals::Refused(why) => print_refusal(why),
@@ -203,6 +203,27 @@ fn sizes(heap: Heap, table: &[u32; 68]) {
     block_size(heap, table, 3, 160);
 }
 
+// To size 0 a resize is a free. A longer block takes the run at its right, so that the next one of checkout 2 goes behind it; with no room there it goes
+// to another place, and the byte that the modem wrote goes along. The old place is free and zero then, and a shorter block's tail is. 6 counts the new
+// length in place of the old, and the peak never both places.
+fn resizes(heap: Heap, table: &mut [u32; 68], arena: &mut [u8; 512]) -> Heap {
+    let mut h = heap;
+    h = realloc(h, table, arena, 3, 384, 0);
+    h = alloc(h, table, 3, 40);
+    h = realloc(h, table, arena, 3, 48, 112);
+    h = alloc(h, table, 2, 64);
+    arena[148] = 7;
+    h = realloc(h, table, arena, 3, 48, 128);
+    print_byte(148, arena[148]);
+    print_byte(484, arena[484]);
+    h = realloc(h, table, arena, 3, 48, 16);
+    h = realloc(h, table, arena, 3, 384, 129);
+    h = realloc(h, table, arena, 3, 384, 40);
+    print_byte(484, arena[484]);
+    block_size(h, table, 3, 384);
+    h
+}
+
 // What the three tasks hold adds up to what is used.
 fn closing(heap: Heap, table: &[u32; 68]) {
     holding(heap, table, 1);
@@ -220,5 +241,6 @@ fn main() {
     heap = evening(heap, &mut table, &mut arena);
     heap = bad_frees(heap, &mut table, &mut arena);
     sizes(heap, &table);
+    heap = resizes(heap, &mut table, &mut arena);
     closing(heap, &table);
 }

@@ -2,41 +2,14 @@
 // number. What 01's rules give stands in `stdout`, beside `src/`.
 ghost use Prim.Native.Nat.{_<_};
 use heap::Heap;
-use model::Freed;
 use model::Made;
-use model::Placed;
 use model::Plan;
-use model::Refusal;
-
-fn print_value(name: &[u8], n: u64) {
-    io::write_all(1, name);
-    io::print_decimal(1, n);
-}
-
-fn end_line() {
-    io::write_all(1, b"\n");
-}
-
-fn print_ok(n: u64) {
-    print_value(b": ok ", n);
-    end_line();
-}
-
-fn print_no(number: u32) {
-    print_value(b": no ", number as u64);
-    end_line();
-}
-
-fn print_refusal(why: Refusal) {
-    print_no(model::number(why));
-}
-
-fn print_placed(placed: Placed) {
-    match placed {
-        Placed::At(offset) => print_ok(offset as u64),
-        Placed::Refused(why) => print_refusal(why),
-    }
-}
+use printing::end_line;
+use printing::print_freed;
+use printing::print_no;
+use printing::print_ok;
+use printing::print_placed;
+use printing::print_value;
 
 fn print_capacity(rows: usize) {
     print_value(b" bytes ", rows as u64);
@@ -86,10 +59,7 @@ fn free(heap: Heap, table: &mut [u32], arena: &mut [u8], offset: u32) -> Heap {
     print_value(b"free ", offset as u64);
     let out = heap::free(heap, table, arena, 1, offset);
     let freed = out.freed;
-    match freed {
-        Freed::Bytes(bytes) => print_ok(bytes as u64),
-        Freed::Refused(why) => print_refusal(why),
-    }
+    print_freed(freed);
     out.heap
 }
 
