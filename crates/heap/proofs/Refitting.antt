@@ -56,6 +56,7 @@ module _ (r : Heap) (ws : List ℕ) (v : valid r ws ≡ true) (o : ℕ) (known :
   bounded = bounds r ws v
 
   module _ (x i : ℕ) (b : BlockRow r ws x i) where
+    -- the blocks beside the one in row i
     others-are : others (r .rows) i ws ≡ without x blocks
     others-are = ap (λ (k : ℕ). without k blocks) (row-at b)
 
@@ -69,7 +70,7 @@ module _ (r : Heap) (ws : List ℕ) (v : valid r ws ≡ true) (o : ℕ) (known :
         λ j. choose (room (configOf r) (others-are j) (granulesFor n) (starts j)) (some (starts j)) (lowestStart (configOf r) blocks (granulesFor n) 16) in
         rw e (split (stays (configOf r) blocks x n) (λ q. rw q) (λ q. rw q))
 
-    -- A resized block at its start, read as b: it may take the place of the one in row i.
+    -- A resized block at its start, read as d: it may take the place of the one in row i.
     module _ (s : ℕ) (e : refit (configOf r) blocks o x n ≡ some (block (configOf r) o n s)) (d : Segment) (is : (c : Config) → d ≡ block c o n s) where
       pub replaceable : Replaceable (configOf r) (r .rows) i d ws
       replaceable =
