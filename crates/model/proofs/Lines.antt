@@ -40,7 +40,7 @@ module _ (v : Bool) (c : Config) (h : State) (arena words : List ℕ) (p : Plan)
   realloc-line-0 = refl
 
   -- For making.
-  pub init-line : line initNumberOf (initOrder arena words p) ≡ 11 ∷ 12 ∷ 13 ∷ []
+  pub init-line : line initNumberOf (initOrder arena words p) ≡ 11 ∷ 18 ∷ 12 ∷ 13 ∷ []
   unfolding initOrder
   init-line = refl
 

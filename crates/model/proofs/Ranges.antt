@@ -9,7 +9,7 @@ use lib.Dec.{leb, eqb}
 use lib.ListN.{length, getD}
 use borrow.Author.Tests.{leb-true, le-leb, eqb-true}
 use Rattle.model.specs.Choose.{every}
-use Rattle.model.specs.Quantities.{within, isArena, isTable, owners, Config, inRange, quota}
+use Rattle.model.specs.Quantities.{within, isArena, isBase, isTable, owners, Config, inRange, quota}
 use Rattle.model.proofs.Choosing.{split, tests, both-left, both-right, both-true, parts, every-head, every-tail}
 
 -- the bounds of a range
@@ -54,6 +54,13 @@ quota-at qs (suc i) h = let z : suc i - 1 ≡ i = omega arith in rw z
 pub arena-whole : (n : ℕ) → isArena n ≡ true → n % 16 ≡ 0
 arena-whole n e = eqb-true (n % 16) 0 (search parts)
 
+pub arena-most : (n : ℕ) → isArena n ≡ true → n ≤ 1048576
+arena-most n e = within-most 16 1048576 n (search parts)
+
+-- base 0 is allowed for every arena
+pub zero-base : (n : ℕ) → isArena n ≡ true → isBase n 0 ≡ true
+zero-base n e = le-leb (0 + n) 4294967296 (omega (arith, arena-most n e))
+
 pub table-whole : (n : ℕ) → isTable n ≡ true → n % 4 ≡ 0
 table-whole n e = eqb-true (n % 4) 0 (search parts)
 
@@ -67,6 +74,12 @@ module _ (c : Config) (e : inRange c ≡ true) where
 
   pub some-granules : 1 ≤ c .granules
   some-granules = let r : within 16 1048576 (16 * c .granules) ≡ true = search parts in omega (arith, within-least 16 1048576 (16 * c .granules) r)
+
+  pub base-whole : c .base % 16 ≡ 0
+  base-whole = eqb-true (c .base % 16) 0 (search parts)
+
+  pub base-ends : c .base + 16 * c .granules ≤ 4294967296
+  base-ends = leb-true (c .base + 16 * c .granules) 4294967296 (search parts)
 
   pub some-rows : 1 ≤ c .capacity
   some-rows = let r : within 4 2048 (4 * c .capacity) ≡ true = search parts in omega (arith, within-least 4 2048 (4 * c .capacity) r)

@@ -36,7 +36,7 @@ pub data Heap : Type 0 where
   heap : (granules rows quota : ℕ) (blockQuotas : List ℕ) (blocks : List Segment) (peak : ℕ) → Heap
 
 abbrev config : Heap → Config
-config (heap g t q ks bs p) = record { granules = g; capacity = t; granuleQuotas = q ∷ 5 ∷ replicate 6 0; blockQuotas = ks ++ replicate 6 0 }
+config (heap g t q ks bs p) = record { granules = g; base = 0; capacity = t; granuleQuotas = q ∷ 5 ∷ replicate 6 0; blockQuotas = ks ++ replicate 6 0 }
 
 abbrev state : Heap → State
 state (heap g t q ks bs p) = record { blocks = bs; peak = p }

@@ -26,12 +26,12 @@ use Rattle.model.specs.declared.Segment.{Segment}
 use Rattle.model.specs.declared.Refusal.the-variants as refusal
 use Rattle.model.specs.declared.Resized.the-variants as answer
 
--- every start is on a boundary of 16 bytes
-serves-16 : (c : Config) (bs : List Segment) (g s : ℕ) → serves c bs g 16 s ≡ room c bs g s
-serves-16 c bs g s = rw (eq-eqb ((16 * s) % 16) 0 (omega arith))
+-- every start is on a boundary of 16 bytes if the base is
+serves-16 : (c : Config) → c .base % 16 ≡ 0 → (bs : List Segment) (g s : ℕ) → serves c bs g 16 s ≡ room c bs g s
+serves-16 c base bs g s = rw (eq-eqb ((c .base + 16 * s) % 16) 0 (omega arith))
 
--- Of a block that cannot stay:
-module _ (c : Config) (bs : List Segment) (o x n : ℕ) (hn : 1 ≤ n) (e : stays c bs x n ≡ false) where
+-- Of a block that cannot stay, in an arena whose base is a multiple of 16:
+module _ (c : Config) (base : c .base % 16 ≡ 0) (bs : List Segment) (o x n : ℕ) (hn : 1 ≤ n) (e : stays c bs x n ≡ false) where
   -- it goes to s exactly if there is room for it at s beside all blocks, itself included, and at no lower start;
   pub moves-exactly : (s : ℕ) → (refit c bs o x n ≡ some (block c o n s)) ↔ ((room c bs (needed c n) s ≡ true) × ((t : ℕ) → t < s → room c bs (needed c n) t ≡ false))
   moves-exactly s = (
@@ -41,9 +41,9 @@ module _ (c : Config) (bs : List Segment) (o x n : ℕ) (hn : 1 ≤ n) (e : stay
         let z : block c o n t ≡ block c o n s = cc in
         let y : t ≡ s = ap (λ (d : Segment). d .start) z in
         let w = lowest-exactly c bs (needed c n) 16 s (omega arith) .0 (q ∙ ap some y) in
-        (sym (serves-16 c bs (needed c n) s) ∙ w .0, λ u p. sym (serves-16 c bs (needed c n) u) ∙ w .1 u p)),
+        (sym (serves-16 c base bs (needed c n) s) ∙ w .0, λ u p. sym (serves-16 c base bs (needed c n) u) ∙ w .1 u p)),
     λ w. let l : lowestStart c bs (needed c n) 16 ≡ some s =
-        lowest-exactly c bs (needed c n) 16 s (omega arith) .1 (serves-16 c bs (needed c n) s ∙ w .0, λ t p. serves-16 c bs (needed c n) t ∙ w .1 t p) in
+        lowest-exactly c bs (needed c n) 16 s (omega arith) .1 (serves-16 c base bs (needed c n) s ∙ w .0, λ t p. serves-16 c base bs (needed c n) t ∙ w .1 t p) in
         rw (e, l),
   )
 
@@ -51,9 +51,9 @@ module _ (c : Config) (bs : List Segment) (o x n : ℕ) (hn : 1 ≤ n) (e : stay
   pub moves-nowhere : (refit c bs o x n ≡ none) ↔ ((s : ℕ) → room c bs (needed c n) s ≡ false)
   moves-nowhere = (
     λ f s. splitOption (lowestStart c bs (needed c n) 16)
-        (λ q. sym (serves-16 c bs (needed c n) s) ∙ no-place-exactly c bs (needed c n) 16 (omega arith) .0 q s)
+        (λ q. sym (serves-16 c base bs (needed c n) s) ∙ no-place-exactly c bs (needed c n) 16 (omega arith) .0 q s)
         (λ t q. let f′ : some (block c o n t) ≡ none = rw (e, q) at f in let w : _≡_ {A = ℕ} 0 1 = cc in absurd (omega arith)),
-    λ w. rw (e, no-place-exactly c bs (needed c n) 16 (omega arith) .1 (λ s. serves-16 c bs (needed c n) s ∙ w s)),
+    λ w. rw (e, no-place-exactly c bs (needed c n) 16 (omega arith) .1 (λ s. serves-16 c base bs (needed c n) s ∙ w s)),
   )
 
 -- Of an owner's block at x, to n bytes:

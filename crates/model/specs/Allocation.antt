@@ -1,4 +1,4 @@
--- Document 01's "Rules of lending" and document 02's resize, but for the arena's bytes: what a size needs, the set of live blocks, first fit by address, which block is at a byte or has a granule, which block a resize leaves, used, free and peak; and what an owner has of them.
+-- Document 01's "Rules of lending", with document 02's base address and resize, but for the arena's bytes: what a size needs, the set of live blocks, first fit by address, which block is at a byte or has a granule, which block a resize leaves, used, free and peak; and what an owner has of them.
 -- Assumes nothing.
 use Prim.Native.Nat.{ℕ, _+_, _-_, _*_, _/_, _%_, max}
 use mathlib.Core.Bool.{Bool, not}
@@ -34,9 +34,9 @@ clearOf s g b = either (leb (s + g) (b .start)) (leb (b .start + b .length) s)
 abbrev pub room : Config → List Segment → ℕ → ℕ → Bool
 room c bs g s = both (leb (s + g) (c .granules)) (every (clearOf s g) bs)
 
--- A start s serves g granules on a boundary of a bytes: 16 s, counted from the arena's first byte, is a multiple of a, and there is room.
+-- A start s serves g granules on a boundary of a bytes: its address, the base plus 16 s, is a multiple of a, and there is room.
 abbrev pub serves : Config → List Segment → ℕ → ℕ → ℕ → Bool
-serves c bs g a s = both (eqb ((16 * s) % a) 0) (room c bs g s)
+serves c bs g a s = both (eqb ((c .base + 16 * s) % a) 0) (room c bs g s)
 
 -- The lowest start that serves, if one does.
 abbrev pub lowestStart : Config → List Segment → ℕ → ℕ → Option ℕ
@@ -59,7 +59,7 @@ insert b (x ∷ xs) = choose (ltb (b .start) (x .start)) (b ∷ x ∷ xs) (x ∷
 abbrev pub put : Option Segment → List Segment → List Segment
 put f bs = given f bs (λ b. insert b bs)
 
--- A block's first byte is at 16 times its start.
+-- A block's first byte is at 16 times its start, counted from the arena's first byte.
 abbrev pub offset : Segment → ℕ
 offset b = 16 * b .start
 

@@ -8,7 +8,7 @@ use lib.Dec.{eqb}
 use Rattle.model.specs.Choose.{choose, given}
 use Rattle.model.specs.Quantities.{Config}
 use Rattle.model.specs.Allocation.{State, fit, without, refit}
-use Rattle.model.specs.Reasons.{Reason, invalidHeap, badOwner, zeroSize, badAlignment, blockQuotaReached, granuleQuotaExceeded, noPlace, tableFull, pastEnd, notAligned, freeMemory, insideBlock, otherOwner, otherArena, badArena, badTable, badQuota}
+use Rattle.model.specs.Reasons.{Reason, invalidHeap, badOwner, zeroSize, badAlignment, blockQuotaReached, granuleQuotaExceeded, noPlace, tableFull, pastEnd, notAligned, freeMemory, insideBlock, otherOwner, otherArena, badArena, badBase, badTable, badQuota}
 use Rattle.model.specs.declared.Plan.{Plan}
 use Rattle.model.specs.declared.Refusal.{Refusal}
 use Rattle.model.specs.declared.InitRefusal.{InitRefusal}
@@ -60,9 +60,9 @@ module _ (isValid : Bool) (c : Config) (h : State) where
   blockSizeOrder o x =
       invalidHeap isValid ∷ badOwner o ∷ offsetOrder c h o x
 
--- For making: 11, 12, 13.
+-- For making: 11, 18, 12, 13.
 unfoldable pub initOrder : List ℕ → List ℕ → Plan → Order InitRefusal
-initOrder arena words p = badArena arena ∷ badTable words ∷ badQuota p ∷ []
+initOrder arena words p = badArena arena ∷ badBase arena p ∷ badTable words ∷ badQuota p ∷ []
 
 -- For the totals: 1.
 unfoldable pub totalsOrder : Bool → Order Refusal

@@ -1,4 +1,4 @@
--- Document 01's "Numbers that say no", 1 to 13, and document 02's 15 to 17: when each applies. (14 is the script program's.)
+-- Document 01's "Numbers that say no", 1 to 13, and document 02's 15 to 18: when each applies. (14 is the script program's.)
 -- Assumes nothing.
 use Prim.Native.Nat.{ℕ, _+_, _*_, _/_, _%_}
 use mathlib.Core.Bool.{Bool, false, not}
@@ -7,7 +7,7 @@ use mathlib.Core.Option.{Option}
 use lib.Dec.{leb, ltb, eqb}
 use lib.ListN.{length}
 use Rattle.model.specs.Choose.{total, given, isNone}
-use Rattle.model.specs.Quantities.{isArena, isTable, isOwner, quotasInRange, isAlignment, Config, quota}
+use Rattle.model.specs.Quantities.{isArena, isBase, isTable, isOwner, quotasInRange, isAlignment, Config, quota}
 use Rattle.model.specs.Allocation.{needed, charge, put, blockAt, blockOver, ownedBy}
 use Rattle.model.specs.Arena.{hasRecordedLength}
 use Rattle.model.specs.SegmentMap.{rowsOf}
@@ -81,6 +81,10 @@ otherArena c arena = (not (hasRecordedLength c arena), refusal.ArenaLength)
 -- 11 of a making: the arena's length is not allowed.
 abbrev pub badArena : List ℕ → Reason InitRefusal
 badArena arena = (not (isArena (length arena)), initRefusal.ArenaLength)
+
+-- 18: the base is not a multiple of 16, or the arena ends past 4,294,967,296.
+abbrev pub badBase : List ℕ → Plan → Reason InitRefusal
+badBase arena p = (not (isBase (length arena) (p .base)), initRefusal.BadBase)
 
 -- 12: the table's length is not 4 to 2,048 words in steps of 4.
 abbrev pub badTable : List ℕ → Reason InitRefusal

@@ -32,10 +32,16 @@ module _ (arena words : List ℕ) (p : Plan) where
   abbrev pub init : Made
   init = unless (initOrder arena words p) made.Done made.Refused
 
-  -- The heap is made with the arena's granules, the table's rows and the plan's quotas.
+  -- The heap is made with the arena's granules, the plan's base, the table's rows and the plan's quotas.
   abbrev pub initConfig : Config
   initConfig =
-      record { granules = length arena / 16; capacity = length words / 4; granuleQuotas = p .«granule_quotas»; blockQuotas = p .«block_quotas» }
+      record {
+        granules = length arena / 16;
+        base = p .base;
+        capacity = length words / 4;
+        granuleQuotas = p .«granule_quotas»;
+        blockQuotas = p .«block_quotas»;
+      }
 
   -- It zeroes the arena, unless it is refused.
   abbrev pub arenaAfterInit : List ℕ
