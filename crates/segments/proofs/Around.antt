@@ -4,12 +4,12 @@ use mathlib.Core.Path.{_≡_, refl, sym, ap, _∙_, subst}
 use mathlib.Core.Bool.{Bool, true, false, not}
 use mathlib.Core.List.{List, [], _∷_, _++_, append-assoc, append-nil}
 use mathlib.Core.Option.{some}
-use Prim.Native.Nat.{ℕ, _+_, _-_, _*_, _%_, _≤_, _<_}
+use Prim.Native.Nat.{ℕ, _+_, _-_, _%_, _≤_, _<_}
 use native.Mathlib.Omega.{arith}
 use lib.Dec.{leb, ltb, eqb}
 use lib.ListN.{length, take, length-append}
 use lib.Seq.{take-at, append-snoc}
-use borrow.Author.Tests.{eqb-true, eq-eqb, le-leb, lt-leb}
+use borrow.Author.Tests.{eqb-true, le-leb, lt-leb}
 use Rattle.model.specs.Choose.{choose, both, every, only, firstOf}
 use Rattle.model.specs.Quantities.{Config}
 use Rattle.model.specs.Allocation.{clearOf, room, insert, offset, hasGranule, blockOver}
@@ -17,6 +17,7 @@ use Rattle.model.specs.SegmentMap.{isFree, isLive, freeRun, gap, mapOf, rowsOf}
 use Rattle.model.proofs.Choosing.{split, clash, same-test, tests, parts, both-true, every-head, every-append, every-only, every-weaker, every-back, only-append, first-back}
 use Rattle.model.proofs.Ordered.{Live, Ordered, long, only-ordered, before-clear, after-clear}
 use Rattle.model.proofs.Offsets.{granule-in, in-granule}
+use Rattle.model.proofs.BaseLaws.{atBase, lowest-alike}
 use Rattle.segments.specs.Rows.{segmentAt, segmentsIn, blocksIn}
 use Rattle.segments.specs.Tiling.{tiles, isMap}
 use Rattle.segments.specs.Search.{startOf, Found, others, refitStart}
@@ -252,8 +253,9 @@ module _ (c : Config) (n i : ℕ) (ws : List ℕ) (h : i < n) (m : isMap c (segm
   pub refit-stays : (g : ℕ) → row .start + g ≤ to → some (row .start) ≡ refitStart c n i g ws
   refit-stays g k = rw (stays-around g ∙ le-leb (row .start + g) to k)
 
-  pub refit-goes : (g : ℕ) → to < row .start + g → (f : Fit) → Found c n g 16 ws f → startOf f ≡ refitStart c n i g ws
-  refit-goes g k f w = rw (stays-around g ∙ lt-leb (row .start + g) to k) (sym (w .lowest))
+  -- What first fit finds on 16 bytes, for a base with the same remainder by 16, is where the block goes.
+  pub refit-goes : (g : ℕ) → to < row .start + g → (f : Fit) (b : ℕ) → c .base % 16 ≡ b % 16 → Found (atBase b c) n g 16 ws f → startOf f ≡ refitStart c n i g ws
+  refit-goes g k f b e w = rw (stays-around g ∙ lt-leb (row .start + g) to k) (sym (w .lowest) ∙ sym (lowest-alike c b 16 e (blocksIn n ws) g))
 
   -- Without that row there are fewer rows, by one less than the free run is cut into for it.
   pub around-count : rowsOf c (others n i ws) + length (cut (runAround n i ws) row) ≡ n + 1
@@ -282,7 +284,7 @@ module _ (c : Config) (n i : ℕ) (ws : List ℕ) (h : i < n) (m : isMap c (segm
   module _ (b t : Segment) (l : Live c b) (fits : room c (others n i ws) (b .length) (b .start) ≡ true)
       (over : blockOver (b .start) (mapOf c (others n i ws)) ≡ some t) where
     target : MapWith c (others n i ws) b
-    target = map-with c (others n i ws) b 16 ordered l (both-true _ _ (eq-eqb ((16 * b .start) % 16) 0 (omega arith)) fits)
+    target = map-with c (others n i ws) b ordered l fits
 
     target-is : target .row ≡ t
     target-is =

@@ -104,7 +104,7 @@ module _ (c : Config) (k : Census) (x : Segment) where
 
 -- An arena of so many granules, apart from all else that a heap is made with.
 abbrev pub ofGranules : ℕ → Config
-ofGranules g = record { granules = g; capacity = 0; granuleQuotas = []; blockQuotas = [] }
+ofGranules g = record { granules = g; base = 0; capacity = 0; granuleQuotas = []; blockQuotas = [] }
 
 -- What is that count, for each such arena, is bounded.
 pub counted-so : (g : ℕ) (k : Census) (x : Segment) → Bounded g k → (r : Census) → ((c : Config) → c .granules ≡ g → r ≡ countedOf c k x)

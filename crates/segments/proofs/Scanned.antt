@@ -26,16 +26,16 @@ use Rattle.model.specs.declared.Segment.{Segment}
 use Rattle.segments.specs.declared.Fit.{Fit}
 use Rattle.segments.specs.declared.Fit.the-variants as fit
 
--- A free segment that has g granules from a multiple of m on.
-abbrev pub hit : ℕ → ℕ → Segment → Bool
-hit g m x = both (isFree x) (leb (padding m (x .start) + g) (x .length))
+-- A free segment that has g granules from a boundary of m granules on, counted from f granules before the arena's first.
+abbrev pub hit : ℕ → ℕ → ℕ → Segment → Bool
+hit g m f x = both (isFree x) (leb (padding m (f + x .start) + g) (x .length))
 
 -- The first of them, from row i on.
-abbrev pub firstHit : ℕ → ℕ → ℕ → List Segment → Fit
-firstHit g m i [] = fit.Nothing
-firstHit g m i (x ∷ xs) = choose (hit g m x) (fit.At i (x .start + padding m (x .start))) (firstHit g m (i + 1) xs)
+abbrev pub firstHit : ℕ → ℕ → ℕ → ℕ → List Segment → Fit
+firstHit g m f i [] = fit.Nothing
+firstHit g m f i (x ∷ xs) = choose (hit g m f x) (fit.At i (x .start + padding m (f + x .start))) (firstHit g m f (i + 1) xs)
 
-module _ (c : Config) (g m a : ℕ) (hg : 1 ≤ g) (up : (s : ℕ) → Padded m a s) where
+module _ (c : Config) (g m a : ℕ) (hg : 1 ≤ g) (up : (s : ℕ) → Padded m a (c .base) s) where
   -- a start in a live block does not serve
   in-block : (x : Segment) (bs : List Segment) (t : ℕ) → x .start ≤ t → t < x .start + x .length → serves c (x ∷ bs) g a t ≡ false
   in-block x bs t h k =
@@ -50,12 +50,12 @@ module _ (c : Config) (g m a : ℕ) (hg : 1 ≤ g) (up : (s : ℕ) → Padded m 
 
   -- a start in a free run that is too short does not serve either
   short : (s : ℕ) (x : Segment) (xs : List Segment) → tiles s (c .granules) (x ∷ xs) ≡ true → noTwoFree (x ∷ xs) ≡ true
-      → isFree x ≡ true → x .length < padding m (x .start) + g → (t : ℕ) → x .start ≤ t → t < x .start + x .length
+      → isFree x ≡ true → x .length < padding m (c .base / 16 + x .start) + g → (t : ℕ) → x .start ≤ t → t < x .start + x .length
       → serves c (only isLive xs) g a t ≡ false
   short s x [] ts n f l t h k =
       split (serves c [] g a t)
       (λ q. let fi : First s (c .granules) x [] = first s (c .granules) x [] ts in
-      let p : eqb ((16 * t) % a) 0 ≡ true = search parts in
+      let p : eqb ((c .base + 16 * t) % a) 0 ≡ true = search parts in
       let r : leb (t + g) (c .granules) ≡ true = search parts in
       absurd (omega (tests, fi .rest, up (x .start) .least t h (eqb-true _ _ p))))
       (λ q. q)
@@ -66,38 +66,38 @@ module _ (c : Config) (g m a : ℕ) (hg : 1 ≤ g) (up : (s : ℕ) → Padded m 
       (λ q. absurd (clash false (rw (f, q) at (both-left (not (both (isFree x) (isFree y))) (noTwoFree (y ∷ ys)) n)) refl))
       (λ q. rw q
       (split (serves c (y ∷ only isLive ys) g a t)
-      (λ v. let p : eqb ((16 * t) % a) 0 ≡ true = search parts in
+      (λ v. let p : eqb ((c .base + 16 * t) % a) 0 ≡ true = search parts in
       let e : every (clearOf t g) (y ∷ only isLive ys) ≡ true = search parts in
       absurd (omega (tests, up (x .start) .least t h (eqb-true _ _ p), clear-before t g y (every-head (clearOf t g) y (only isLive ys) e) (omega arith))))
       (λ v. v)))
 
   -- the lowest start from s on is that of the first hit
   lowest-hit : (i s : ℕ) (xs : List Segment) → tiles s (c .granules) xs ≡ true → every (wellFormed c) xs ≡ true → noTwoFree xs ≡ true
-      → leastFrom (serves c (only isLive xs) g a) s (c .granules - s) ≡ startOf (firstHit g m i xs)
+      → leastFrom (serves c (only isLive xs) g a) s (c .granules - s) ≡ startOf (firstHit g m (c .base / 16) i xs)
   lowest-hit i s [] ts w n = let z : c .granules - s ≡ 0 = omega (tests, eqb-true s (c .granules) ts) in rw z
   lowest-hit i s (x ∷ xs) ts w n =
       let f : First s (c .granules) x xs = first s (c .granules) x xs ts in
       let bs : List Segment = only isLive xs in
       let e : ℕ = x .start + x .length in
       let k : ℕ = c .granules - e in
-      let u : ℕ = x .start + padding m (x .start) in
+      let u : ℕ = x .start + padding m (c .base / 16 + x .start) in
       let le : e ≤ c .granules = tiles-le e (c .granules) xs (f .rest) in
       let z : c .granules - x .start ≡ x .length + k = omega arith in
-      let r : leastFrom (serves c bs g a) e k ≡ startOf (firstHit g m (i + 1) xs) =
+      let r : leastFrom (serves c bs g a) e k ≡ startOf (firstHit g m (c .base / 16) (i + 1) xs) =
       lowest-hit (i + 1) e xs (f .rest) (every-tail (wellFormed c) x xs w) (apart-tail x xs n) in
       let o : Ordered c e bs = ordered-back c e xs (f .rest) (every-tail (wellFormed c) x xs w) in
-      subst (λ (b : ℕ). leastFrom (serves c (only isLive (x ∷ xs)) g a) b (c .granules - b) ≡ startOf (firstHit g m i (x ∷ xs))) (f .start)
+      subst (λ (b : ℕ). leastFrom (serves c (only isLive (x ∷ xs)) g a) b (c .granules - b) ≡ startOf (firstHit g m (c .base / 16) i (x ∷ xs))) (f .start)
       (split (isFree x)
       (λ q. rw q
-      (split (leb (padding m (x .start) + g) (x .length))
+      (split (leb (padding m (c .base / 16 + x .start) + g) (x .length))
       (λ h. rw h
       (some-least (serves c bs g a) (x .start) (c .granules - x .start) u
       (record {
         from = omega arith;
         below = omega tests;
-        holds = rw (eq-eqb ((16 * u) % a) 0 (up (x .start) .aligned), le-leb (u + g) (c .granules) (omega tests)) (clear-all c u g e bs (omega tests) o);
+        holds = rw (eq-eqb ((c .base + 16 * u) % a) 0 (up (x .start) .aligned), le-leb (u + g) (c .granules) (omega tests)) (clear-all c u g e bs (omega tests) o);
         first = λ j above below.
-            rw (ne-eqb ((16 * j) % a) 0 (λ y. absurd (omega (arith, up (x .start) .least j above y))));
+            rw (ne-eqb ((c .base + 16 * j) % a) 0 (λ y. absurd (omega (arith, up (x .start) .least j above y))));
       })))
       (λ h. rw (h, z)
       (least-skip (serves c bs g a) (x .start) (x .length) k (short s x xs ts n q (omega tests)) ∙ r))))
@@ -107,50 +107,53 @@ module _ (c : Config) (g m a : ℕ) (hg : 1 ≤ g) (up : (s : ℕ) → Padded m 
       ∙ r)))
 
 -- The first hit is the first from row i on: no row before it is one.
-pub record Passed (g m n i : ℕ) (ws : List ℕ) : Type 0 where
-  pub same : firstHit g m 0 (segmentsIn n ws) ≡ firstHit g m i (rest n i ws)
+pub record Passed (g m f n i : ℕ) (ws : List ℕ) : Type 0 where
+  pub same : firstHit g m f 0 (segmentsIn n ws) ≡ firstHit g m f i (rest n i ws)
 
 -- There is no row before row 0.
-pub passed-none : (g m n : ℕ) (ws : List ℕ) → Passed g m n 0 ws
-passed-none g m n ws = record { same = refl }
+pub passed-none : (g m f n : ℕ) (ws : List ℕ) → Passed g m f n 0 ws
+passed-none g m f n ws = record { same = refl }
 
-module _ {g m n i : ℕ} {ws : List ℕ} (p : Passed g m n i ws) (h : i < n) (x : Segment) (e : x ≡ segmentAt ws i) where
+module _ {g m f n i : ℕ} {ws : List ℕ} (p : Passed g m f n i ws) (h : i < n) (x : Segment) (e : x ≡ segmentAt ws i) where
   this-row : rest n i ws ≡ x ∷ rest n (i + 1) ws
   this-row = rest-row n i ws h ∙ ap (λ (y : Segment). y ∷ rest n (i + 1) ws) (sym e)
 
   -- Row i is no hit either.
-  pub passed-one : hit g m x ≡ false → Passed g m n (i + 1) ws
+  pub passed-one : hit g m f x ≡ false → Passed g m f n (i + 1) ws
   passed-one q = record { same = p .same ∙ rw (this-row, q) }
 
   -- row i is the first hit
-  first-at : hit g m x ≡ true → firstHit g m 0 (segmentsIn n ws) ≡ fit.At i (x .start + padding m (x .start))
+  first-at : hit g m f x ≡ true → firstHit g m f 0 (segmentsIn n ws) ≡ fit.At i (x .start + padding m (f + x .start))
   first-at q = p .same ∙ rw (this-row, q)
 
 -- the lowest start is that of the first hit
-lowest : (c : Config) (n g a : ℕ) (ws : List ℕ) → isMap c (segmentsIn n ws) ≡ true → 1 ≤ g → isAlignment a ≡ true
-    → lowestStart c (blocksIn n ws) g a ≡ startOf (firstHit g (a / 16) 0 (segmentsIn n ws))
-lowest c n g a ws ok hg al =
+lowest : (c : Config) (base n g a : ℕ) (ws : List ℕ) → c .base ≡ base → base % 16 ≡ 0 → isMap c (segmentsIn n ws) ≡ true → 1 ≤ g → isAlignment a ≡ true
+    → lowestStart c (blocksIn n ws) g a ≡ startOf (firstHit g (a / 16) (base / 16) 0 (segmentsIn n ws))
+lowest c base n g a ws at-base whole ok hg al =
     let m : (1 ≤ a / 16) × (a ≡ 16 * (a / 16)) = alignment-granules a al in
     let z : c .granules ≡ c .granules - 0 = omega arith in
+    let w : c .base % 16 ≡ 0 = ap (λ (b : ℕ). b % 16) at-base ∙ whole in
     ap (leastFrom (serves c (blocksIn n ws) g a) 0) z
-    ∙ lowest-hit c g (a / 16) a hg (padded (a / 16) a (m .0) (m .1)) 0 0 (segmentsIn n ws) (search parts) (search parts) (search parts)
+    ∙ lowest-hit c g (a / 16) a hg (padded (a / 16) a (c .base) (m .0) (m .1) w) 0 0 (segmentsIn n ws) (search parts) (search parts) (search parts)
+    ∙ ap (λ (b : ℕ). startOf (firstHit g (a / 16) (b / 16) 0 (segmentsIn n ws))) at-base
 
-module _ (c : Config) {n g a i : ℕ} {ws : List ℕ} (ok : isMap c (segmentsIn n ws) ≡ true) (hg : 1 ≤ g) (al : isAlignment a ≡ true) (p : Passed g (a / 16) n i ws) where
+module _ (c : Config) {base n g a i : ℕ} {ws : List ℕ} (at-base : c .base ≡ base) (whole : base % 16 ≡ 0) (ok : isMap c (segmentsIn n ws) ≡ true)
+    (hg : 1 ≤ g) (al : isAlignment a ≡ true) (p : Passed g (a / 16) (base / 16) n i ws) where
   -- No row is a hit.
   pub found-none : n ≤ i → Found c n g a ws fit.Nothing
-  found-none h = record { lowest = lowest c n g a ws ok hg al ∙ ap startOf (p .same ∙ ap (firstHit g (a / 16) i) (rest-none n i ws h)); room = tt }
+  found-none h = record { lowest = lowest c base n g a ws at-base whole ok hg al ∙ ap startOf (p .same ∙ ap (firstHit g (a / 16) (base / 16) i) (rest-none n i ws h)); room = tt }
 
   -- Row i is a hit: it ends in the arena, so the sum that is its start does not wrap.
-  pub found-at : c .granules ≤ 4294967295 → i < n → (x : Segment) → x ≡ segmentAt ws i → hit g (a / 16) x ≡ true
-      → (s : ℕ) → s ≡ (x .start + padding (a / 16) (x .start)) % 2 ^ 32 → Found c n g a ws (fit.At i s)
+  pub found-at : c .granules ≤ 4294967295 → i < n → (x : Segment) → x ≡ segmentAt ws i → hit g (a / 16) (base / 16) x ≡ true
+      → (s : ℕ) → s ≡ (x .start + padding (a / 16) (base / 16 + x .start)) % 2 ^ 32 → Found c n g a ws (fit.At i s)
   found-at small h x e q s w =
       let t : tiles 0 (c .granules) (segmentsIn n ws) ≡ true = search parts in
       let b : x .start + x .length ≤ c .granules = rw e (row-end n (c .granules) ws i t h) in
       let f : isFree x ≡ true = search parts in
-      let l : leb (padding (a / 16) (x .start) + g) (x .length) ≡ true = search parts in
-      let z : s ≡ x .start + padding (a / 16) (x .start) = w ∙ mod-eq-of-lt (omega tests) in
+      let l : leb (padding (a / 16) (base / 16 + x .start) + g) (x .length) ≡ true = search parts in
+      let z : s ≡ x .start + padding (a / 16) (base / 16 + x .start) = w ∙ mod-eq-of-lt (omega tests) in
       record {
-        lowest = lowest c n g a ws ok hg al ∙ ap startOf (first-at p h x e q ∙ ap (fit.At i) (sym z));
+        lowest = lowest c base n g a ws at-base whole ok hg al ∙ ap startOf (first-at p h x e q ∙ ap (fit.At i) (sym z));
         room = record {
           inUse = h;
           free = sym (ap (λ (y : Segment). y .owner) e) ∙ eqb-true (x .owner) 0 f;

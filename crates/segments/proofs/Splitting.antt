@@ -5,15 +5,15 @@ use mathlib.Core.Bool.{Bool, true, false}
 use mathlib.Core.List.{List, [], _∷_, _++_}
 use Prim.Native.Nat.{ℕ, _+_, _-_, _≤_, _<_}
 use native.Mathlib.Omega.{arith}
-use lib.Dec.{ltb}
+use lib.Dec.{leb, ltb}
 use lib.ListN.{length, take, drop, length-append}
 use borrow.Author.Tests.{ltb-true, leb-true, eq-eqb, lt-ltb, le-ltb}
 use Rattle.model.specs.Choose.{every, only}
 use Rattle.model.specs.Quantities.{Config}
-use Rattle.model.specs.Allocation.{clearOf, serves, insert}
+use Rattle.model.specs.Allocation.{clearOf, room, insert}
 use Rattle.model.specs.SegmentMap.{isFree, isLive, gap, mapOf, rowsOf}
-use Rattle.model.proofs.Choosing.{split, tests, both-true, every-head, every-tail, every-append, only-append, every-back, every-only, every-picked}
-use Rattle.model.proofs.Ordered.{Live, Ordered, long, clear-before, Place, place}
+use Rattle.model.proofs.Choosing.{split, tests, both-left, parts, both-true, every-head, every-tail, every-append, only-append, every-back, every-only, every-picked}
+use Rattle.model.proofs.Ordered.{Live, Ordered, long, clear-before, place}
 use Rattle.model.proofs.MapRows.{gap-short}
 use Rattle.segments.specs.Rows.{segmentAt, segmentsIn, blocksIn}
 use Rattle.segments.specs.Tiling.{tiles, wellFormed, isMap}
@@ -147,7 +147,7 @@ module _ (c : Config) (ys zs : List Segment) (x b : Segment) (m : isMap c (ys ++
       clear-end (b .start) (b .length) (x .start + x .length) (c .granules) zs (subst (λ (k : ℕ). tiles k (c .granules) zs ≡ true) (r .end) (r .place .back))
       (apart-first zs (rw row-free at (r .apart-after))) (rw row-free at later) high inside
 
--- The map with a block at a start that serves: the block lies in a free row of the map before, and that row is cut for it.
+-- The map with a block at a start that has room for it: the block lies in a free row of the map before, and that row is cut for it.
 pub record MapWith (c : Config) (bs : List Segment) (b : Segment) : Type 0 where
   pub before : List Segment
   pub row : Segment
@@ -158,18 +158,19 @@ pub record MapWith (c : Config) (bs : List Segment) (b : Segment) : Type 0 where
   pub high : b .start + b .length ≤ row .start + row .length
   pub new : mapOf c (insert b bs) ≡ before ++ (cut row b ++ after)
 
-pub map-with : (c : Config) (bs : List Segment) (b : Segment) (a : ℕ) → Ordered c 0 bs → Live c b → serves c bs (b .length) a (b .start) ≡ true → MapWith c bs b
-map-with c bs b a o l t =
-    let p : Place c bs (b .length) a (b .start) = place c bs (b .length) a (b .start) t in
+pub map-with : (c : Config) (bs : List Segment) (b : Segment) → Ordered c 0 bs → Live c b → room c bs (b .length) (b .start) ≡ true → MapWith c bs b
+map-with c bs b o l t =
+    let inside : b .start + b .length ≤ c .granules = leb-true _ _ (both-left (leb (b .start + b .length) (c .granules)) (every (clearOf (b .start) (b .length)) bs) t) in
+    let apart : every (clearOf (b .start) (b .length)) bs ≡ true = search parts in
     let h : RowAt (b .start) (mapOf c bs) = row-at 0 (c .granules) (b .start) (mapOf c bs) (tiles-map c 0 bs o) (omega arith) (omega (arith, long c b l)) in
     let ys : List Segment = h .before in
     let x : Segment = h .row in
     let zs : List Segment = h .after in
     let m : isMap c (ys ++ (x ∷ zs)) ≡ true = subst (λ r. isMap c r ≡ true) (h .all) (is-map c bs o) in
     let e : bs ≡ only isLive (ys ++ (x ∷ zs)) = sym (live-map c 0 bs o) ∙ ap (only isLive) (h .all) in
-    let clear : every (clearOf (b .start) (b .length)) (only isLive (ys ++ (x ∷ zs))) ≡ true = subst (λ r. every (clearOf (b .start) (b .length)) r ≡ true) e (p .clear) in
-    let free : isFree x ≡ true = row-free c ys zs x b m l (p .inside) clear (h .low) (h .high) in
-    let high : b .start + b .length ≤ x .start + x .length = row-ends c ys zs x b m l (p .inside) clear (h .low) (h .high) in
+    let clear : every (clearOf (b .start) (b .length)) (only isLive (ys ++ (x ∷ zs))) ≡ true = subst (λ r. every (clearOf (b .start) (b .length)) r ≡ true) e apart in
+    let free : isFree x ≡ true = row-free c ys zs x b m l inside clear (h .low) (h .high) in
+    let high : b .start + b .length ≤ x .start + x .length = row-ends c ys zs x b m l inside clear (h .low) (h .high) in
     record {
       before = ys;
       row = x;

@@ -130,21 +130,23 @@ pub fn row_of(table: &[u32], rows: usize, granule: u32) -> usize
     low
 }
 
-// The granules from `start` to the next multiple of `unit`, 0 if it is one.
-fn padding_of(start: u32, unit: u32) -> u32
-    requires { ⌜ 1 ≤ unit ⌝ }
-    ensures { λ r. ⌜ (r ≡ padding unit start) × (r < unit) ⌝ }
+// The granules from `start` to the next boundary of `unit` granules, 0 if it is on one; the granule from which starts are counted is `past` granules past a
+// boundary. Nothing is added to `start`, so no start wraps.
+fn padding_of(past: u32, start: u32, unit: u32) -> u32
+    requires { ⌜ (past < unit) × (unit ≤ 2147483647) ⌝ }
+    ensures { λ r. ⌜ (r ≡ padding unit (past + start)) × (r < unit) ⌝ }
 {
-    (unit - start % unit) % unit
+    (2 * unit - past - start % unit) % unit
 }
 
-// First fit: the first free row with room for `need` granules on a boundary of `align` bytes. Before a boundary at most 255 granules are skipped,
-// so that the sum fits a word.
-pub fn first_fit(table: &[u32], rows: usize, need: u32, align: u32) -> Fit
-    requires { do ⌜ (4 * rows ≤ (← ⟦table.len()⟧)) × (1 ≤ need) × (need ≤ 4294967040) × (isAlignment align ≡ true) ⌝ }
-    ensures { λ r. ⌜ ((c : Config) → c .granules ≤ 4294967295 → isMap c (segmentsIn rows (now (table .entry))) ≡ true → Found c rows need align (now (table .entry)) r) ⌝ }
+// First fit: the first free row with room for `need` granules from an address on that is a multiple of `align`, in an arena whose first byte has the
+// address `base`. Before a boundary at most 255 granules are skipped, so that the sum fits a word.
+pub fn first_fit(table: &[u32], rows: usize, base: u32, need: u32, align: u32) -> Fit
+    requires { do ⌜ (4 * rows ≤ (← ⟦table.len()⟧)) × (base % 16 ≡ 0) × (1 ≤ need) × (need ≤ 4294967040) × (isAlignment align ≡ true) ⌝ }
+    ensures { λ r. ⌜ ((c : Config) → c .base ≡ base → c .granules ≤ 4294967295 → isMap c (segmentsIn rows (now (table .entry))) ≡ true → Found c rows need align (now (table .entry)) r) ⌝ }
 {
     let unit = align / 16;
+    let past = base / 16 % unit;
     let mut i: usize = 0;
     loop {
         if rows <= i {
@@ -152,7 +154,7 @@ pub fn first_fit(table: &[u32], rows: usize, need: u32, align: u32) -> Fit
         }
         let s = row(table, i);
         if s.owner == 0 {
-            let skipped = padding_of(s.start, unit);
+            let skipped = padding_of(past, s.start, unit);
             if skipped + need <= s.length {
                 break Fit::At {
                     row: i,
@@ -421,8 +423,8 @@ fn run_to(table: &[u32], rows: usize, i: usize) -> u32
     }
 }
 
-// The start of the block in row i with `need` granules: its own if the free run around it ends no earlier, else where first fit says. The bound on
-// `need` is so that the sum fits a word.
+// The start of the block in row i with `need` granules: its own if the free run around it ends no earlier, else where first fit says, on 16 bytes; every
+// start is on such a boundary, whatever multiple of 16 the base is. The bound on `need` is so that the sum fits a word.
 pub fn refit(table: &[u32], rows: usize, i: usize, need: u32) -> Fit
     requires { do
       ⌜ (i < rows)
@@ -430,7 +432,7 @@ pub fn refit(table: &[u32], rows: usize, i: usize, need: u32) -> Fit
           × (1 ≤ need)
           × (need ≤ 4294901759)
           × ((c : Config) × (c .granules ≤ 65536) × (isMap c (segmentsIn rows (now table)) ≡ true)) ⌝ }
-    ensures { λ r. ⌜ ((c : Config) → c .granules ≤ 65536 → isMap c (segmentsIn rows (now (table .entry))) ≡ true → isLive (segmentAt (now (table .entry)) i) ≡ true → startOf r ≡ refitStart c rows i need (now (table .entry))) ⌝ }
+    ensures { λ r. ⌜ ((c : Config) → c .base % 16 ≡ 0 → c .granules ≤ 65536 → isMap c (segmentsIn rows (now (table .entry))) ≡ true → isLive (segmentAt (now (table .entry)) i) ≡ true → startOf r ≡ refitStart c rows i need (now (table .entry))) ⌝ }
 {
     let s = row(table, i);
     let to = run_to(table, rows, i);
@@ -440,7 +442,7 @@ pub fn refit(table: &[u32], rows: usize, i: usize, need: u32) -> Fit
             start: s.start,
         };
     }
-    first_fit(table, rows, need, 16)
+    first_fit(table, rows, 0, need, 16)
 }
 
 // The free run that row i leaves when it is released, if the rows are a map.

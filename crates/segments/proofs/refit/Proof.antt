@@ -1,9 +1,10 @@
 -- `segments::refit` meets its contract.
 -- Assumes nothing.
-use mathlib.Core.Path.{ap, _∙_}
+use mathlib.Core.Path.{refl, ap, _∙_}
 use mathlib.Core.Option.{some}
 use native.Mathlib.Omega.{arith}
 use borrow.Author.Needs.{needs}
+use Rattle.model.proofs.BaseLaws.{atBase}
 use Rattle.segments.proofs.Finding.{row-inside}
 use Rattle.segments.proofs.Around.{refit-stays, refit-goes}
 use Rattle.model.specs.declared.Segment.{Segment}
@@ -25,7 +26,7 @@ add-if1 c =
     omega (arith, p .4 .1, row-inside (p .4 .0) _ _ _ (p .4 .2) (p .0))
 
 returns : tie.Need-returns
-returns c k small map live =
+returns c k whole small map live =
     let p = c .before .before .before .before .before in
     ap some (ap (λ (x : Segment). x .start) (c .before .before .before .row .ensures))
     ∙ refit-stays k _ _ _ (p .pre .0) map live (p .args .need) (omega (arith, ap (λ (x : Segment). x .start) (c .before .before .before .row .ensures)))
@@ -34,9 +35,9 @@ first-fit-requires : tie.Need-first-fit-requires
 first-fit-requires c κs = search needs
 
 returns-2 : tie.Need-returns-2
-returns-2 c k small map live =
+returns-2 c k whole small map live =
     let p = c .before .before .before .before .before .before in
-    refit-goes k _ _ _ (p .pre .0) map live (p .args .need) (omega (arith, ap (λ (x : Segment). x .start) (c .before .before .before .before .row .ensures))) (c .first-fit .result) (c .first-fit .ensures k (omega arith) map)
+    refit-goes k _ _ _ (p .pre .0) map live (p .args .need) (omega (arith, ap (λ (x : Segment). x .start) (c .before .before .before .before .row .ensures))) (c .first-fit .result) 0 whole (c .first-fit .ensures (atBase 0 k) refl (omega arith) map)
 
 pub refit-spec : {M : Type 1} → statement M
 refit-spec =
