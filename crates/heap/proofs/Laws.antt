@@ -60,22 +60,23 @@ free-zeroes s arena o x k e i =
     let many : bytesAt (state s) x ≡ k = rw (r .found) (sym (a .2)) in
     rw (a .1, many) (zeroed-each x k arena (omega (arith, a .2)) i)
 
--- A making that is not refused sets one free row over the whole arena, zeroes the other rows and the arena, and sets used and peak to 0.
+-- A making that is not refused sets one free row over the whole arena, zeroes the other rows and the arena, sets used and peak to 0, and keeps the base.
 pub init-done : (arena words : List ℕ) (p : Plan) → init arena words p ≡ made.Done
     → (afterInit arena words p .words ≡ 0 ∷ length arena / 16 ∷ 0 ∷ 0 ∷ replicate (4 * (length words / 4 - 1)) 0)
     × (afterInit arena words p .heap .rows ≡ 1)
     × (afterInit arena words p .heap .used ≡ 0)
     × (afterInit arena words p .heap .peak ≡ 0)
     × (arenaAfterInit arena words p ≡ replicate (length arena) 0)
+    × (afterInit arena words p .heap .base ≡ p .base)
 init-done arena words p done =
     let q : firstReason (initOrder arena words p) ≡ none = none-applies arena words p done in
     let ranged : inRange (initConfig arena words p) ≡ true = init-range arena words p done in
-    (rw q (fresh-table (initConfig arena words p) ranged), rw q (fresh-rows (initConfig arena words p) ranged), rw q, rw q, rw q)
+    (rw q (fresh-table (initConfig arena words p) ranged), rw q (fresh-rows (initConfig arena words p) ranged), rw q, rw q, rw q, rw q)
 
 -- A refused making answers an all-zero record, and leaves the table and the arena as they were.
 pub init-refused : (arena words : List ℕ) (p : Plan) (r : InitRefusal) → init arena words p ≡ made.Refused r
     → (afterInit arena words p ≡ record { heap = zeroHeap; words = words }) × (arenaAfterInit arena words p ≡ arena)
-init-refused arena words p r e = let q : (t : InitRefusal) × (firstReason (initOrder arena words p) ≡ some t) = init-reason arena words p r e in (rw (q .1), rw (q .1))
+init-refused arena words p r e = let q : firstReason (initOrder arena words p) ≡ some r = init-reason arena words p r e in (rw q, rw q)
 
 -- That record is not valid, with any table.
 pub refused-invalid : (arena words : List ℕ) (p : Plan) (r : InitRefusal) → init arena words p ≡ made.Refused r

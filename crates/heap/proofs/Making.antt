@@ -9,7 +9,7 @@ use native.Mathlib.Omega.{arith}
 use lib.ListN.{length, replicate, length-replicate, drop-of-length-le}
 use borrow.Author.Tests.{not-false, lt-ltb}
 use Rattle.model.specs.Choose.{given}
-use Rattle.model.specs.Quantities.{isArena, isTable, quotasInRange, Config, inRange}
+use Rattle.model.specs.Quantities.{isArena, isBase, isTable, quotasInRange, Config, inRange}
 use Rattle.model.specs.Allocation.{fresh}
 use Rattle.model.specs.Arena.{written, zeroed}
 use Rattle.model.specs.SegmentMap.{freeRun, rowsOf}
@@ -19,7 +19,7 @@ use Rattle.model.specs.Orders.{Order, firstReason, initOrder}
 use Rattle.model.specs.Rules.{init, initConfig}
 use Rattle.model.proofs.Choosing.{split, splitOption}
 use Rattle.model.proofs.Ranges.{arena-whole, table-whole, some-granules, some-rows}
-use Rattle.model.proofs.Refusing.{NoReason, no-reason, refused-some}
+use Rattle.model.proofs.Refusing.{NoReason, no-reason}
 use Rattle.model.proofs.MapRows.{gap-short}
 use Rattle.model.proofs.Kept.{Kept}
 use Rattle.heap.specs.Stored.{store, tableFor}
@@ -38,6 +38,14 @@ not-done r e = let z : _≡_ {A = ℕ} 0 1 = cc in omega arith
 done-none : (rs : Order InitRefusal) → given (firstReason rs) made.Done made.Refused ≡ made.Done → firstReason rs ≡ none
 done-none rs e = splitOption (firstReason rs) (λ q. q) (λ r q. absurd (not-done r (rw q at e)))
 
+-- an arena's length is a whole number of granules
+arena-granules : (n : ℕ) → isArena n ≡ true → 16 * (n / 16) ≡ n
+arena-granules n e = omega (arith, arena-whole n e)
+
+-- A base is allowed for an arena exactly if it is for that many granules.
+pub base-granules : (n b : ℕ) → isArena n ≡ true → isBase n b ≡ isBase (16 * (n / 16)) b
+base-granules n b e = ap (λ (k : ℕ). isBase k b) (sym (arena-granules n e))
+
 module _ (arena words : List ℕ) (p : Plan) (done : init arena words p ≡ made.Done) where
   pub none-applies : firstReason (initOrder arena words p) ≡ none
   none-applies = done-none (initOrder arena words p) done
@@ -45,19 +53,21 @@ module _ (arena words : List ℕ) (p : Plan) (done : init arena words p ≡ made
   pub init-leaves : afterInit arena words p ≡ store (initConfig arena words p) fresh
   init-leaves = rw none-applies
 
-  allowed : (isArena (length arena) ≡ true) × (isTable (length words) ≡ true) × (quotasInRange (p .«granule_quotas») (p .«block_quotas») ≡ true)
+  allowed : (isArena (length arena) ≡ true) × (isBase (length arena) (p .base) ≡ true) × (isTable (length words) ≡ true) × (quotasInRange (p .«granule_quotas») (p .«block_quotas») ≡ true)
   unfolding initOrder
   allowed =
       let n : NoReason (initOrder arena words p) = no-reason (initOrder arena words p) none-applies in
-      (not-false _ (n .0), not-false _ (n .1 .0), not-false _ (n .1 .1 .0))
+      (not-false _ (n .0), not-false _ (n .1 .0), not-false _ (n .1 .1 .0), not-false _ (n .1 .1 .1 .0))
+
+  granules-whole : 16 * (length arena / 16) ≡ length arena
+  granules-whole = arena-granules (length arena) (allowed .0)
 
   rows-whole : 4 * (length words / 4) ≡ length words
-  rows-whole = omega (arith, table-whole (length words) (allowed .1))
+  rows-whole = omega (arith, table-whole (length words) (allowed .2))
 
   pub init-range : inRange (initConfig arena words p) ≡ true
   init-range =
-      let granules-whole : 16 * (length arena / 16) ≡ length arena = omega (arith, arena-whole (length arena) (allowed .0)) in
-      rw (allowed .2, granules-whole, allowed .0, rows-whole, allowed .1)
+      rw (allowed .3, granules-whole, allowed .0, allowed .1, rows-whole, allowed .2)
 
 module _ (c : Config) (ranged : inRange c ≡ true) where
   -- a heap that nobody has called yet
@@ -82,9 +92,12 @@ module _ (c : Config) (ranged : inRange c ≡ true) where
 pub zero-invalid : (ws : List ℕ) → valid zeroHeap ws ≡ false
 zero-invalid ws = split (valid zeroHeap ws) (λ q. let k : Conditions zeroHeap ws = valid-conditions zeroHeap ws q in absurd (omega (arith, k .rowsLeast))) (λ q. q)
 
-pub init-reason : (arena words : List ℕ) (p : Plan) (r : InitRefusal) → init arena words p ≡ made.Refused r
-    → (t : InitRefusal) × (firstReason (initOrder arena words p) ≡ some t)
-init-reason arena words p r e = refused-some (initOrder arena words p) made.Done made.Refused r (λ z. not-done r (sym z)) e
+-- The reason that a making answers is the first that applies.
+pub init-reason : (arena words : List ℕ) (p : Plan) (why : InitRefusal) → init arena words p ≡ made.Refused why → firstReason (initOrder arena words p) ≡ some why
+init-reason arena words p why e =
+    splitOption (firstReason (initOrder arena words p))
+    (λ q. absurd (not-done why (sym (rw q at e))))
+    (λ r q. let e′ : made.Refused r ≡ made.Refused why = rw q at e in let z : r ≡ why = cc in q ∙ ap some z)
 
 -- What a making that is refused leaves: all that was handed in, and an all-zero record.
 pub refused-leaves : (arena words : List ℕ) (p : Plan) (why : InitRefusal) (out : Initialized) → (out .made ≡ made.Refused why) × (out .heap ≡ zeroHeap)
@@ -107,7 +120,7 @@ module _ (arena words : List ℕ) (p : Plan) (done : init arena words p ≡ made
   pub done-leaves : (bytes table : List ℕ) (v : ℕ) → bytes ≡ written 0 (replicate (length arena) v) arena → v ≡ 0 → table ≡ wordsOf (freeRun 0 (length arena / 16) ∷ []) ++ replicate (length words - 4) 0
       → InitDone arena words p (record {
         made = made.Done;
-        heap = record { capacity = length words / 4; rows = 1; granules = length arena / 16; used = 0; peak = 0; «granule_quotas» = p .«granule_quotas»; «block_quotas» = p .«block_quotas» };
+        heap = record { capacity = length words / 4; rows = 1; granules = length arena / 16; base = p .base; used = 0; peak = 0; «granule_quotas» = p .«granule_quotas»; «block_quotas» = p .«block_quotas» };
       }) bytes table
   done-leaves bytes table v b z t =
       let q : firstReason (initOrder arena words p) ≡ none = none-applies arena words p done in

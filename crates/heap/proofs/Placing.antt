@@ -81,11 +81,11 @@ module _ (r : Heap) (ws : List ℕ) (o n a : ℕ) where
 
       -- What first fit says of a valid heap, for a proper allocation.
       module _ (g : ℕ) (size : g ≡ granulesFor n) (f : Fit)
-          (w : (c : Config) → c .granules ≤ 4294967295 → isMap c (segmentsIn (r .rows) ws) ≡ true → Found c (r .rows) g a ws f) where
+          (w : (c : Config) → c .base ≡ r .base → c .granules ≤ 4294967295 → isMap c (segmentsIn (r .rows) ws) ≡ true → Found c (r .rows) g a ws f) where
         here : Found (configOf r) (r .rows) (granulesFor n) a ws f
         here =
             subst (λ (k : ℕ). Found (configOf r) (r .rows) k a ws f) size
-            (w (configOf r) (omega (arith, bounds r ws v .granules)) (valid-map r ws v))
+            (w (configOf r) refl (omega (arith, bounds r ws v .granules)) (valid-map r ws v))
 
         pub no-place : f ≡ found.Nothing → firstReason last ≡ some refusal.NoPlace
         no-place q = let z : Found (configOf r) (r .rows) (granulesFor n) a ws found.Nothing = subst (Found (configOf r) (r .rows) (granulesFor n) a ws) q here in rw (z .lowest)

@@ -4,7 +4,7 @@ use mathlib.Core.Path.{_≡_, refl, sym, ap, _∙_, subst}
 use mathlib.Core.Bool.{true, false}
 use mathlib.Core.List.{List}
 use mathlib.Core.Option.{Option, none, some}
-use Prim.Native.Nat.{ℕ, _+_, _-_, _/_, _≤_, _<_}
+use Prim.Native.Nat.{ℕ, _+_, _-_, _/_, _%_, _≤_, _<_}
 use native.Mathlib.Omega.{arith}
 use lib.Dec.{ltb}
 use lib.ListN.{length, getD}
@@ -105,12 +105,12 @@ module _ (r : Heap) (ws : List ℕ) (v : valid r ws ≡ true) (o : ℕ) (known :
 
     -- What the search says.
     module _ (g : ℕ) (size : g ≡ granulesFor n) (f : Fit)
-        (w : (c : Config) → c .granules ≤ 65536 → isMap c (segmentsIn (r .rows) ws) ≡ true → isLive (segmentAt ws i) ≡ true → startOf f ≡ refitStart c (r .rows) i g ws) where
+        (w : (c : Config) → c .base % 16 ≡ 0 → c .granules ≤ 65536 → isMap c (segmentsIn (r .rows) ws) ≡ true → isLive (segmentAt ws i) ≡ true → startOf f ≡ refitStart c (r .rows) i g ws) where
       found-is : refit (configOf r) blocks o x n ≡ given (startOf f) none (λ s. some (block (configOf r) o n s))
       found-is =
           refit-is
           ∙ ap (λ (t : Option ℕ). given t none (λ s. some (block (configOf r) o n s)))
-          (sym (w (configOf r) (bounded .granules) (valid-map r ws v) (row-live b) ∙ ap (λ (k : ℕ). refitStart (configOf r) (r .rows) i k ws) size))
+          (sym (w (configOf r) (bounded .base) (bounded .granules) (valid-map r ws v) (row-live b) ∙ ap (λ (k : ℕ). refitStart (configOf r) (r .rows) i k ws) size))
 
       -- 7: there is no place,
       pub replace-nowhere : f ≡ found.Nothing → firstReason (replaceOrder (configOf r) (stateIn r ws) o x n) ≡ some refusal.NoPlace

@@ -104,6 +104,7 @@ updatedOf r rows used =
       capacity = r .capacity;
       rows = rows;
       granules = r .granules;
+      base = r .base;
       used = used;
       peak = max (r .peak) used;
       «granule_quotas» = r .«granule_quotas»;

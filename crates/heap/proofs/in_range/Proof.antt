@@ -20,13 +20,21 @@ returns-2 : tie.Need-returns-2
 returns-2 c =
     rw (sym (c .before .before .before .quotas-in-range .ensures) ∙ not-false _ (c .before .before .if1 .left), arena-range (c .before .before .before .before .before .before .args .heap .granules), sym (c .before .is-within .ensures) ∙ not-true _ (c .if2 .taken))
 
-is-within-requires-2 : tie.Need-is-within-requires-2
-is-within-requires-2 c κs = search needs
+is-base-requires : tie.Need-is-base-requires
+is-base-requires c κs = search needs
 
 returns-3 : tie.Need-returns-3
 returns-3 c =
-    let h = c .before .before .before .before .before .before .before .args .heap in
-    rw (sym (c .before .before .before .before .quotas-in-range .ensures) ∙ not-false _ (c .before .before .before .if1 .left), arena-range (h .granules), sym (c .before .before .is-within .ensures) ∙ not-false _ (c .before .if2 .left), table-range (h .capacity)) (c .is-within2 .ensures)
+    let h = c .before .before .before .before .before .before .before .before .args .heap in
+    rw (sym (c .before .before .before .before .before .quotas-in-range .ensures) ∙ not-false _ (c .before .before .before .before .if1 .left), arena-range (h .granules), sym (c .before .before .before .is-within .ensures) ∙ not-false _ (c .before .before .if2 .left), sym (c .before .is-base .ensures) ∙ not-true _ (c .if3 .taken))
+
+is-within-requires-2 : tie.Need-is-within-requires-2
+is-within-requires-2 c κs = search needs
+
+returns-4 : tie.Need-returns-4
+returns-4 c =
+    let h = c .before .before .before .before .before .before .before .before .before .args .heap in
+    rw (sym (c .before .before .before .before .before .before .quotas-in-range .ensures) ∙ not-false _ (c .before .before .before .before .before .if1 .left), arena-range (h .granules), sym (c .before .before .before .before .is-within .ensures) ∙ not-false _ (c .before .before .before .if2 .left), sym (c .before .before .is-base .ensures) ∙ not-false _ (c .before .if3 .left), table-range (h .capacity)) (c .is-within2 .ensures)
 
 pub in-range-spec : {M : Type 1} → statement M
 in-range-spec =
@@ -36,5 +44,7 @@ in-range-spec =
     returns
     is-within-requires
     returns-2
+    is-base-requires
+    returns-3
     is-within-requires-2
-    returns-3)
+    returns-4)

@@ -26,7 +26,7 @@ first-fit-requires c κs =
     let a = p .args in
     let b = bounds (a .heap) (a .table .now) (p .pre .0) in
     let l = proper (a .owner) (a .size) (a .align) (no-reason (properOrder (a .owner) (a .size) (a .align)) (p .pre .1)) in
-    (omega (arith, b .words, b .rowsMost), omega arith, omega arith, l .alignment)
+    (omega (arith, b .words, b .rowsMost), b .base, omega arith, omega arith, l .alignment)
 
 enum-told : tie.Need-enum-told
 enum-told c = search needs
