@@ -21,7 +21,7 @@ pub fn alloc(heap: &mut Heap, table: &mut [u32], owner: u32, size: u32) -> Place
     out.placed
 }
 
-// Lends `size` bytes to `owner` on a boundary of `align` bytes, and answers the byte offset.
+// Lends `size` bytes to `owner`, and answers the byte offset: the record's base plus the offset is a multiple of `align`.
 pub fn alloc_aligned(
     heap: &mut Heap,
     table: &mut [u32],

@@ -3,16 +3,17 @@
 use mathlib.Core.Path.{_≡_, refl, sym, ap, _∙_, subst}
 use mathlib.Core.Bool.{Bool, true, false, not}
 use mathlib.Core.List.{List, _++_}
-use mathlib.Core.Option.{Option, none, some}
+use mathlib.Core.Option.{none, some}
 use Prim.Native.Nat.{ℕ, _*_, _≤_, min}
 use native.Mathlib.Omega.{arith}
 use lib.Dec.{ltb}
 use lib.ListN.{length, take, drop, take-append-drop}
 use lib.Seq.{length-take-le}
-use Rattle.model.specs.Choose.{either, given}
+use Rattle.model.specs.Choose.{either}
 use Rattle.model.specs.Quantities.{isArena, isTable, isOwner}
 use Rattle.model.specs.Orders.{firstReason, initOrder, allocOrder, freeOrder}
 use borrow.Author.Tests.{lt-ltb, le-ltb}
+use Rattle.model.proofs.Ranges.{zero-base}
 use Rattle.model.proofs.Choosing.{split, splitOption, tests, clash}
 use Rattle.model.proofs.Refusing.{no-reason}
 use Rattle.heap.specs.Calls.{isValid, config, state}
@@ -20,15 +21,16 @@ use Rattle.heap.specs.Promises.{InitDone, AllocDone, FreeDone}
 use Rattle.heap.specs.declared.Initialized.{Initialized}
 use Rattle.heap.specs.declared.Allocated.{Allocated}
 use Rattle.heap.specs.declared.Released.{Released}
-use Rattle.heap.proofs.Making.{none-applies}
+use Rattle.heap.proofs.Making.{init-reason, none-applies}
 use Rattle.model.specs.declared.Refusal.the-variants as refusal
 use Rattle.model.specs.declared.InitRefusal.{InitRefusal}
 use Rattle.model.specs.declared.Made.the-variants as made
 use Rattle.script.specs.Commands.{answerNumbered}
-use Rattle.script.specs.Machine.{Machine, machine, withHeap, mostBytes, placedAnswer, freedAnswer, limitOrder, makeOrder, bytes, stored, answerTo, numberedTo, after}
+use Rattle.script.specs.Machine.{Machine, machine, withHeap, planOf, mostBytes, placedAnswer, freedAnswer, limitOrder, makeOrder, bytes, stored, answerTo, numberedTo, after}
 use Rattle.script.specs.Promises.{CommandDone}
 use Rattle.script.specs.Steps.{partOf}
 use Rattle.script.proofs.Lists.{at-most}
+use Rattle.model.specs.declared.Plan.{Plan}
 use Rattle.script.specs.declared.Script.{Script}
 use Rattle.script.specs.declared.Carried.{Carried}
 use Rattle.script.specs.declared.Command.{Command}
@@ -107,18 +109,14 @@ part-test p nothing b m l h =
 part-whole : (t : Bool) (b m : ℕ) → either t (ltb m b) ≡ false → partOf b m ≡ b
 part-whole t b m e = split (ltb m b) (λ q. absurd (clash (either t (ltb m b)) (either-true t (ltb m b) q) e)) (λ q. rw q)
 
--- The reason that was found is the one that a making answers.
-reason-is : (found : Option InitRefusal) (why : InitRefusal) → given found made.Done made.Refused ≡ made.Refused why → found ≡ some why
-reason-is none why e = let z : _≡_ {A = ℕ} 0 1 = cc in absurd (omega arith)
-reason-is (some r) why e = cc
-
 -- A make of b bytes and r rows.
 module _ (s : Script) (ws bs : List ℕ) (b r n k : ℕ) (bytes-part : n ≡ partOf b (min mostBytes (length bs))) (words-part : k ≡ partOf (4 * r) (length ws)) where
-  -- Its order finds the reason that the order of the making finds in the parts that are handed on.
-  pub same-reason : firstReason (makeOrder (machine s ws bs) b r) ≡ firstReason (initOrder (take n bs) (take k ws) (s .plan))
+  -- Its order finds the reason that the order of the making finds in the parts that are handed on: base 0 is no reason.
+  pub same-reason : firstReason (makeOrder (machine s ws bs) b r) ≡ firstReason (initOrder (take n bs) (take k ws) (planOf s))
   unfolding makeOrder initOrder
   same-reason =
       rw (over-smaller mostBytes (length bs) b, bytes-part, words-part, part-test isArena refl b (min mostBytes (length bs)) bs (omega arith), part-test isTable refl (4 * r) (length ws) ws (omega arith))
+      (split (isArena (length (take (partOf b (min mostBytes (length bs))) bs))) (λ q. rw (q, zero-base _ q)) (λ q. rw q))
 
   -- If it finds none, the parts have so many bytes and so many rows.
   pub parts-whole : firstReason (makeOrder (machine s ws bs) b r) ≡ none → (n ≡ b) × (k ≡ 4 * r)
@@ -127,12 +125,15 @@ module _ (s : Script) (ws bs : List ℕ) (b r n k : ℕ) (bytes-part : n ≡ par
       let free = no-reason (makeOrder (machine s ws bs) b r) q in
       (bytes-part ∙ part-whole (not (isArena b)) b (min mostBytes (length bs)) (rw (over-smaller mostBytes (length bs) b) at (free .0)), words-part ∙ part-whole (not (isTable (4 * r))) (4 * r) (length ws) (free .1 .0))
 
-  module _ (out : Initialized) (bytes words : List ℕ) (d : InitDone (take n bs) (take k ws) (s .plan) out bytes words) where
+  module _ (p : Plan) (planned : p ≡ planOf s) (out : Initialized) (bytes words : List ℕ) (promise : InitDone (take n bs) (take k ws) p out bytes words) where
+    d : InitDone (take n bs) (take k ws) (planOf s) out bytes words
+    d = subst (λ (p : Plan). InitDone (take n bs) (take k ws) p out bytes words) planned promise
+
     -- Refused, the parts come back as they were.
     pub make-refused : (why : InitRefusal) → out .made ≡ made.Refused why
         → CommandDone s ws bs (command.Make b r) (record { answer = answer.NotMade why; script = s }) (words ++ drop k ws) (bytes ++ drop n bs)
     make-refused why e =
-        let q : firstReason (initOrder (take n bs) (take k ws) (s .plan)) ≡ some why = reason-is _ why (sym (d .answer) ∙ e) in
+        let q : firstReason (initOrder (take n bs) (take k ws) (planOf s)) ≡ some why = init-reason (take n bs) (take k ws) (planOf s) why (sym (d .answer) ∙ e) in
         let table : words ≡ take k ws = rw q at (d .table) in
         let arena : bytes ≡ take n bs = rw q at (d .arena) in
         command-done (rw (same-reason, q)) (rw (same-reason, q, table, arena, take-append-drop k ws, take-append-drop n bs))
@@ -144,6 +145,6 @@ module _ (s : Script) (ws bs : List ℕ) (b r n k : ℕ) (bytes-part : n ≡ par
     make-done e then h =
         let q : firstReason (makeOrder (machine s ws bs) b r) ≡ none = same-reason ∙ none-applies _ _ _ (sym (d .answer) ∙ e) in
         let whole : (n ≡ b) × (k ≡ 4 * r) = parts-whole q in
-        let w : InitDone (take b bs) (take (4 * r) ws) (s .plan) out bytes words =
-        subst (λ (l : ℕ × ℕ). InitDone (take (l .0) bs) (take (l .1) ws) (s .plan) out bytes words) (λ i. (whole .0 i, whole .1 i)) d in
+        let w : InitDone (take b bs) (take (4 * r) ws) (planOf s) out bytes words =
+        subst (λ (l : ℕ × ℕ). InitDone (take (l .0) bs) (take (l .1) ws) (planOf s) out bytes words) (λ i. (whole .0 i, whole .1 i)) d in
         command-done (rw q) (rw (q, h) (λ i. machine (withHeap s (w .heap i)) (w .table i ++ drop (whole .1 i) ws) (w .arena i ++ drop (whole .0 i) bs)))

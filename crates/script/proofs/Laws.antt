@@ -30,13 +30,13 @@ use Rattle.heap.proofs.Making.{init-leaves, init-range, fresh-kept, zero-invali
 use Rattle.heap.proofs.Laws.{alloc-invalid, free-invalid}
 use Rattle.script.specs.Text.{ascii, prefixed, pieces, ended, unended, isDigit, valueFrom, valueOf, numberIn, digitsWithin, decimal, spaced, lineOf}
 use Rattle.script.specs.Commands.{readLine, answerLine}
-use Rattle.script.specs.Machine.{Machine, machine, started, mostBytes, segLines, plan, heap, words, bytes, stored, leaving, limitOrder, makeOrder, made, answerTo, after, closing}
+use Rattle.script.specs.Machine.{Machine, machine, started, withHeap, mostBytes, segLines, plan, heap, words, bytes, stored, leaving, limitOrder, makeOrder, made, answerTo, after, closing}
 use Rattle.script.specs.Session.{answersTo, afterLines, takenOf}
 use Rattle.script.specs.Steps.{partOf}
 use Rattle.script.proofs.Carrying.{either-true, either-false, same-reason, parts-whole}
 use Rattle.script.proofs.Writing.{length-decimal, refused-line, not-made-line}
 use Rattle.script.proofs.Parts.{prefixed-none, ended-more, unended-more}
-use Rattle.model.specs.declared.Plan.{Plan}
+use Rattle.script.specs.declared.Script.{Script}
 use Rattle.model.specs.declared.Refusal.{Refusal}
 use Rattle.model.specs.declared.Made.the-variants.{Done}
 use Rattle.script.specs.declared.Command.{Command}
@@ -233,15 +233,15 @@ either-three true b c = refl
 either-three false b c = refl
 
 -- The record and the table that are left at the front of the words are what the next call is handed, if the table has the rows that the record says.
-stored-front : (t : Stored) (p : Plan) (rest bs : List ℕ) → length (t .words) ≡ 4 * t .heap .capacity
-    → stored (machine (record { plan = p; heap = t .heap }) (t .words ++ rest) bs) ≡ t
-stored-front t p rest bs h = ap (λ ws. handed (t .heap) ws) (take-at (t .words) rest (4 * t .heap .capacity) h)
+stored-front : (t : Stored) (s : Script) (rest bs : List ℕ) → length (t .words) ≡ 4 * t .heap .capacity
+    → stored (machine (withHeap s (t .heap)) (t .words ++ rest) bs) ≡ t
+stored-front t s rest bs h = ap (λ ws. handed (t .heap) ws) (take-at (t .words) rest (4 * t .heap .capacity) h)
 
 -- So a state that is kept is left as a valid heap.
-kept-valid : (c : Config) (h : State) (p : Plan) (rest bs : List ℕ) → inRange c ≡ true → Kept c h
-    → isValid (stored (machine (record { plan = p; heap = recordFor c h }) (tableFor c h ++ rest) bs)) ≡ true
-kept-valid c h p rest bs ranged k =
-    ap isValid (stored-front (store c h) p rest bs (length-table (c .capacity) (mapOf c (h .blocks)) (k .rows))) ∙ stored-valid c h k ranged
+kept-valid : (c : Config) (h : State) (s : Script) (rest bs : List ℕ) → inRange c ≡ true → Kept c h
+    → isValid (stored (machine (withHeap s (recordFor c h)) (tableFor c h ++ rest) bs)) ≡ true
+kept-valid c h s rest bs ranged k =
+    ap isValid (stored-front (store c h) s rest bs (length-table (c .capacity) (mapOf c (h .blocks)) (k .rows))) ∙ stored-valid c h k ranged
 
 module _ (m : Machine) where
   -- A call on the heap makes none and loses none.
@@ -257,7 +257,7 @@ module _ (m : Machine) where
       (λ q.
       let left : afterwards (stored m) order h ≡ store (config (stored m)) h = rw q in
       ap valid-after left
-      ∙ kept-valid (config (stored m)) h (plan m) (drop (4 * heap m .capacity) (m .table)) bs (valid-range (heap m) (words m) v) (keeps v q)
+      ∙ kept-valid (config (stored m)) h (m .script) (drop (4 * heap m .capacity) (m .table)) bs (valid-range (heap m) (words m) v) (keeps v q)
       ∙ sym v)
       (λ r q. let left : afterwards (stored m) order h ≡ stored m = rw q in ap valid-after left ∙ same))
       (λ v. ap valid-after (stays v) ∙ same)
@@ -281,9 +281,9 @@ module _ (m : Machine) where
     make-valid =
         let c : Config = initConfig (take b (m .arena)) (take (4 * r) (m .table)) (plan m) in
         let ranged : inRange c ≡ true = init-range (take b (m .arena)) (take (4 * r) (m .table)) (plan m) make-init in
-        ap (λ t. isValid (stored (machine (record { plan = plan m; heap = t .heap }) (t .words ++ drop (4 * r) (m .table)) [])))
+        ap (λ t. isValid (stored (machine (withHeap (m .script) (t .heap)) (t .words ++ drop (4 * r) (m .table)) [])))
         (init-leaves (take b (m .arena)) (take (4 * r) (m .table)) (plan m) make-init)
-        ∙ kept-valid c fresh (plan m) (drop (4 * r) (m .table)) [] ranged (fresh-kept c ranged)
+        ∙ kept-valid c fresh (m .script) (drop (4 * r) (m .table)) [] ranged (fresh-kept c ranged)
 
   -- One command: there is a heap after it if there was one, or if it is a make that is granted.
   step-valid : (k : Command) → isValid (stored (after m k)) ≡ either (isValid (stored m)) (both (isMake k) (isOk (answerTo m k)))

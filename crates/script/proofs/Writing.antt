@@ -127,6 +127,7 @@ refused-line refusal.FreeMemory = refl
 -- So is each refusal of a making.
 pub not-made-line : (r : InitRefusal) → answerLine (answer.NotMade r) ≡ lineOf (ascii "no") (initNumberOf r ∷ [])
 not-made-line initRefusal.ArenaLength = refl
+not-made-line initRefusal.BadBase = refl
 not-made-line initRefusal.TableLength = refl
 not-made-line initRefusal.BadQuota = refl
 

@@ -44,11 +44,15 @@ machine s ws bs = record { script = s; table = ws; arena = bs }
 
 -- Before any line all quotas are 0, and the record is all zero, which is not valid.
 abbrev pub started : Script
-started = record { plan = record { «granule_quotas» = replicate 8 0; «block_quotas» = replicate 8 0 }; heap = calls.zeroHeap }
+started = record { «granule_quotas» = replicate 8 0; «block_quotas» = replicate 8 0; heap = calls.zeroHeap }
 
 -- A call on the heap leaves its record; the quotas for the next make stay.
 abbrev pub withHeap : Script → Heap → Script
-withHeap s r = record { plan = s .plan; heap = r }
+withHeap s r = record { «granule_quotas» = s .«granule_quotas»; «block_quotas» = s .«block_quotas»; heap = r }
+
+-- A make is handed the quotas that the limit lines gave; its heaps keep document 01's form, so their base is 0.
+abbrev pub planOf : Script → Plan
+planOf s = record { base = 0; «granule_quotas» = s .«granule_quotas»; «block_quotas» = s .«block_quotas» }
 
 -- A make refuses more than so many bytes, whatever is lent.
 abbrev pub mostBytes : ℕ
@@ -78,9 +82,9 @@ segLines [] = []
 segLines (x ∷ xs) = segLine x ++ segLines xs
 
 module _ (m : Machine) where
-  -- The quotas for the next make.
+  -- The plan of the next make.
   abbrev pub plan : Plan
-  plan = m .script .plan
+  plan = planOf (m .script)
 
   -- The heap's record.
   abbrev pub heap : Heap
@@ -107,7 +111,8 @@ module _ (m : Machine) where
   limited o g b =
       machine
       (record {
-        plan = record { «granule_quotas» = set (plan .«granule_quotas») (o - 1) g; «block_quotas» = set (plan .«block_quotas») (o - 1) b };
+        «granule_quotas» = set (m .script .«granule_quotas») (o - 1) g;
+        «block_quotas» = set (m .script .«block_quotas») (o - 1) b;
         heap = heap;
       })
       (m .table)

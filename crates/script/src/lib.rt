@@ -7,7 +7,7 @@ ghost use lib.ListN.{length, take, replicate};
 ghost use Rattle.segments.specs.Rows.{segmentsIn};
 ghost use Rattle.script.specs.Text.{numberIn, same, decimal, spaced, lineOf};
 ghost use Rattle.script.specs.Commands.{readLine, answerLine, answerMost};
-ghost use Rattle.script.specs.Machine.{machine, mostBytes, started, withHeap, placedAnswer, freedAnswer, segLines, closing};
+ghost use Rattle.script.specs.Machine.{machine, mostBytes, started, withHeap, planOf, placedAnswer, freedAnswer, segLines, closing};
 ghost use Rattle.script.specs.Session.{mostHeld};
 ghost use Rattle.script.specs.Promises.{CommandDone, FeedDone, WriteDone, FinishDone};
 ghost use Rattle.script.specs.Steps.{before, following, numberRead, withNumber, numbersRead, wordRead, commandFor, partOf, Put, heldWith, AnswerDone};
@@ -56,7 +56,8 @@ pub enum Answer {
 
 // What a script keeps beside the lent table and arena: the quotas for the next make, and the heap's record, all zero until a make is granted.
 pub struct Script {
-    pub plan: Plan,
+    pub granule_quotas: [u32; 8],
+    pub block_quotas: [u32; 8],
     pub heap: Heap,
 }
 
@@ -294,21 +295,31 @@ fn limit(script: Script, owner: u32, granules: u32, blocks: u32) -> Carried
         };
     }
     let i = (owner - 1) as usize;
-    let plan = script.plan;
-    let mut granule_quotas = plan.granule_quotas;
-    let mut block_quotas = plan.block_quotas;
+    let mut granule_quotas = script.granule_quotas;
+    let mut block_quotas = script.block_quotas;
     granule_quotas[i] = granules;
     block_quotas[i] = blocks;
     let heap = script.heap;
     Carried {
         answer: Answer::Ok(granules),
         script: Script {
-            plan: Plan {
-                granule_quotas: granule_quotas,
-                block_quotas: block_quotas,
-            },
+            granule_quotas: granule_quotas,
+            block_quotas: block_quotas,
             heap: heap,
         },
+    }
+}
+
+// What a make is handed: its heaps have base 0, and the quotas that the limit lines gave.
+fn plan_of(script: Script) -> Plan
+    ensures { λ r. ⌜ r ≡ planOf script ⌝ }
+{
+    let granule_quotas = script.granule_quotas;
+    let block_quotas = script.block_quotas;
+    Plan {
+        base: 0,
+        granule_quotas: granule_quotas,
+        block_quotas: block_quotas,
     }
 }
 
@@ -334,7 +345,8 @@ fn make(script: Script, table: &mut [u32], arena: &mut [u8], bytes: u32, rows: u
 {
     let n = arena_part(bytes, arena.len());
     let k = table_part(rows, table.len());
-    let out = heap::init(&mut arena[..n], &mut table[..k], script.plan);
+    let plan = plan_of(script);
+    let out = heap::init(&mut arena[..n], &mut table[..k], plan);
     let made = out.made;
     let left = out.heap;
     match made {
@@ -389,9 +401,11 @@ fn freed_answer(freed: Freed) -> Answer
 fn with_heap(script: Script, heap: Heap) -> Script
     ensures { λ r. ⌜ r ≡ withHeap script heap ⌝ }
 {
-    let plan = script.plan;
+    let granule_quotas = script.granule_quotas;
+    let block_quotas = script.block_quotas;
     Script {
-        plan: plan,
+        granule_quotas: granule_quotas,
+        block_quotas: block_quotas,
         heap: heap,
     }
 }
@@ -648,10 +662,8 @@ pub fn start() -> Session
 {
     Session {
         script: Script {
-            plan: Plan {
-                granule_quotas: [0; 8],
-                block_quotas: [0; 8],
-            },
+            granule_quotas: [0; 8],
+            block_quotas: [0; 8],
             heap: zero_heap(),
         },
         line: [0; 81],

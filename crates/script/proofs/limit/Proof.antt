@@ -30,17 +30,17 @@ mul-granule-quotas : tie.Need-mul-granule-quotas
 mul-granule-quotas c = search needs
 
 array-write-granule-quotas : tie.Need-array-write-granule-quotas
-array-write-granule-quotas c = owner-index _ (owner (c .before .before .before))
+array-write-granule-quotas c = owner-index _ (owner (c .before .before))
 
 mul-block-quotas : tie.Need-mul-block-quotas
 mul-block-quotas c = search needs
 
 array-write-block-quotas : tie.Need-array-write-block-quotas
-array-write-block-quotas c = owner-index _ (owner (c .before .before .before))
+array-write-block-quotas c = owner-index _ (owner (c .before .before))
 
 returns-2 : tie.Need-returns-2
 returns-2 c ws bs =
-    let e = owner (c .before .before .before .before) in
+    let e = owner (c .before .before .before) in
     command-done (rw e) (rw e)
 
 pub limit-spec : {M : Type 1} → statement M

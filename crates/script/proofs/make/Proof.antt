@@ -13,6 +13,9 @@ arena-part-requires c κs = search needs
 table-part-requires : tie.Need-table-part-requires
 table-part-requires c κs = search needs
 
+plan-of-requires : tie.Need-plan-of-requires
+plan-of-requires c κs = search needs
+
 slice-relend-prefix-init : tie.Need-slice-relend-prefix-init
 slice-relend-prefix-init c = search needs
 
@@ -46,8 +49,9 @@ same-length-2 c = search needs
 returns : tie.Need-returns
 returns c =
     let d = c .before .before .before .before .before .before .before .before in
-    let k = d .before .before .before in
-    make-refused _ _ _ _ _ _ _ (k .before .arena-part .ensures .0) (k .table-part .ensures .0) _ _ _ (d .init .ensures) _ (c .before .made .given .1)
+    let p = d .before .before .before in
+    let k = p .before in
+    make-refused _ _ _ _ _ _ _ (k .before .arena-part .ensures .0) (k .table-part .ensures .0) _ (p .plan-of .ensures) _ _ _ (d .init .ensures) _ (c .before .made .given .1)
 
 same-length-3 : tie.Need-same-length-3
 same-length-3 c = search needs
@@ -58,8 +62,9 @@ same-length-4 c = search needs
 returns-2 : tie.Need-returns-2
 returns-2 c =
     let d = c .before .before .before .before .before .before .before .before in
-    let k = d .before .before .before in
-    make-done _ _ _ _ _ _ _ (k .before .arena-part .ensures .0) (k .table-part .ensures .0) _ _ _ (d .init .ensures) (c .before .enum-told .given .1) _ (c .with-heap .ensures)
+    let p = d .before .before .before in
+    let k = p .before in
+    make-done _ _ _ _ _ _ _ (k .before .arena-part .ensures .0) (k .table-part .ensures .0) _ (p .plan-of .ensures) _ _ _ (d .init .ensures) (c .before .enum-told .given .1) _ (c .with-heap .ensures)
 
 pub make-spec : {M : Type 1} → statement M
 make-spec =
@@ -67,6 +72,7 @@ make-spec =
     (tie.spec
     arena-part-requires
     table-part-requires
+    plan-of-requires
     slice-relend-prefix-init
     slice-aggregate-init
     slice-relend-prefix-init-2
