@@ -2,18 +2,17 @@
 // its answer, `ok` and the values or `no` and its number, and some bytes of the arena as they are found. What the papers' rules give stands in `stdout`,
 // beside `src/`.
 use heap::Heap;
-use model::BlockSize;
-use model::Holding;
-use model::Made;
 use model::Plan;
 use model::Resized;
-use model::Totals;
-use printing::end_line;
+use printing::print_block_size;
+use printing::print_byte;
 use printing::print_freed;
-use printing::print_no;
+use printing::print_holding;
+use printing::print_made;
 use printing::print_ok;
 use printing::print_placed;
 use printing::print_refusal;
+use printing::print_totals;
 use printing::print_value;
 
 fn print_task(owner: u32) {
@@ -73,74 +72,37 @@ fn realloc(
     out.heap
 }
 
-fn print_byte(at: u32, byte: u8) {
-    print_value(b"byte ", at as u64);
-    print_value(b": ", byte as u64);
-    end_line();
-}
-
 fn block_size(heap: Heap, table: &[u32; 68], owner: u32, offset: u32) {
     print_task(owner);
     print_value(b" size ", offset as u64);
     let size = driver::block_size_by_value(heap, table, owner, offset);
-    match size {
-        BlockSize::Bytes { requested, held } => {
-            print_value(b": ok requested ", requested as u64);
-            print_value(b" held ", held as u64);
-            end_line();
-        }
-        BlockSize::Refused(why) => print_refusal(why),
-    }
+    print_block_size(size);
 }
 
 fn holding(heap: Heap, table: &[u32; 68], owner: u32) {
     print_task(owner);
     io::write_all(1, b" holding");
     let holding = driver::holding_by_value(heap, table, owner);
-    match holding {
-        Holding::Of { blocks, bytes } => {
-            print_value(b": ok blocks ", blocks as u64);
-            print_value(b" bytes ", bytes as u64);
-            end_line();
-        }
-        Holding::Refused(why) => print_refusal(why),
-    }
+    print_holding(holding);
 }
 
 fn totals(heap: Heap, table: &[u32; 68]) {
     io::write_all(1, b"totals");
     let totals = driver::totals_by_value(heap, table);
-    match totals {
-        Totals::Bytes {
-            used,
-            free,
-            peak,
-            longest,
-        } => {
-            print_value(b": ok used ", used as u64);
-            print_value(b" free ", free as u64);
-            print_value(b" peak ", peak as u64);
-            print_value(b" longest ", longest as u64);
-            end_line();
-        }
-        Totals::Refused(why) => print_refusal(why),
-    }
+    print_totals(totals);
 }
 
-// 17 rows of 4 words. A making answers no value: the 512 that is printed is the arena's length. The quotas are 10 granules and 3 blocks for each checkout
-// task, 8 granules and 2 blocks for the modem.
+// 17 rows of 4 words. The quotas are 10 granules and 3 blocks for each checkout task, 8 granules and 2 blocks for the modem.
 fn init(table: &mut [u32; 68], arena: &mut [u8; 512]) -> Heap {
     io::write_all(1, b"init 512 bytes 17 rows");
     let plan = Plan {
+        base: 0,
         granule_quotas: [10, 10, 8, 0, 0, 0, 0, 0],
         block_quotas: [3, 3, 2, 0, 0, 0, 0, 0],
     };
     let out = heap::init(arena, table, plan);
     let made = out.made;
-    match made {
-        Made::Done => print_ok(512),
-        Made::Refused(why) => print_no(model::init_number(why)),
-    }
+    print_made(made, 512);
     out.heap
 }
 

@@ -2,12 +2,10 @@
 // number. What 01's rules give stands in `stdout`, beside `src/`.
 ghost use Prim.Native.Nat.{_<_};
 use heap::Heap;
-use model::Made;
 use model::Plan;
 use printing::end_line;
 use printing::print_freed;
-use printing::print_no;
-use printing::print_ok;
+use printing::print_made;
 use printing::print_placed;
 use printing::print_value;
 
@@ -20,21 +18,19 @@ fn print_capacity(rows: usize) {
     }
 }
 
-// A making answers no value: what is printed is the arena's length. Owner 1 has the largest quotas there are, so 5 and 6 never apply.
+// Owner 1 has the largest quotas there are, so 5 and 6 never apply.
 fn init(arena: &mut [u8], table: &mut [u32]) -> Heap {
     let bytes = arena.len() as u64;
     print_value(b"init ", bytes);
     print_capacity(table.len() / 4);
     let plan = Plan {
+        base: 0,
         granule_quotas: [65536, 0, 0, 0, 0, 0, 0, 0],
         block_quotas: [256, 0, 0, 0, 0, 0, 0, 0],
     };
     let out = heap::init(arena, table, plan);
     let made = out.made;
-    match made {
-        Made::Done => print_ok(bytes),
-        Made::Refused(why) => print_no(model::init_number(why)),
-    }
+    print_made(made, bytes);
     out.heap
 }
 

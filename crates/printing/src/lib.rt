@@ -1,7 +1,13 @@
-// What `counter_day`, `edges` and `resizes` print alike of a call's answer: `ok` and the value, or `no` and the papers' number.
+// What `addresses`, `counter_day`, `edges` and `resizes` print alike: a call's answer, `ok` and the value or `no` and the papers' number, and the rows
+// and bytes afterwards.
+ghost use Prim.Native.Nat.{_<_};
+use model::BlockSize;
 use model::Freed;
+use model::Holding;
+use model::Made;
 use model::Placed;
 use model::Refusal;
+use model::Totals;
 
 // A number behind its name.
 pub fn print_value(name: &[u8], n: u64) {
@@ -27,6 +33,14 @@ pub fn print_refusal(why: Refusal) {
     print_no(model::number(why));
 }
 
+// A making answers no value: what is printed is the arena's length.
+pub fn print_made(made: Made, bytes: u64) {
+    match made {
+        Made::Done => print_ok(bytes),
+        Made::Refused(why) => print_no(model::init_number(why)),
+    }
+}
+
 pub fn print_placed(placed: Placed) {
     match placed {
         Placed::At(offset) => print_ok(offset as u64),
@@ -39,4 +53,79 @@ pub fn print_freed(freed: Freed) {
         Freed::Bytes(bytes) => print_ok(bytes as u64),
         Freed::Refused(why) => print_refusal(why),
     }
+}
+
+pub fn print_block_size(size: BlockSize) {
+    match size {
+        BlockSize::Bytes { requested, held } => {
+            print_value(b": ok requested ", requested as u64);
+            print_value(b" held ", held as u64);
+            end_line();
+        }
+        BlockSize::Refused(why) => print_refusal(why),
+    }
+}
+
+pub fn print_holding(holding: Holding) {
+    match holding {
+        Holding::Of { blocks, bytes } => {
+            print_value(b": ok blocks ", blocks as u64);
+            print_value(b" bytes ", bytes as u64);
+            end_line();
+        }
+        Holding::Refused(why) => print_refusal(why),
+    }
+}
+
+pub fn print_totals(totals: Totals) {
+    match totals {
+        Totals::Bytes {
+            used,
+            free,
+            peak,
+            longest,
+        } => {
+            print_value(b": ok used ", used as u64);
+            print_value(b" free ", free as u64);
+            print_value(b" peak ", peak as u64);
+            print_value(b" longest ", longest as u64);
+            end_line();
+        }
+        Totals::Refused(why) => print_refusal(why),
+    }
+}
+
+pub fn print_byte(at: u32, byte: u8) {
+    print_value(b"byte ", at as u64);
+    print_value(b": ", byte as u64);
+    end_line();
+}
+
+// Row i, if it is in use: start, length, owner and requested, all but the owner in bytes.
+fn print_row(table: &[u32; 32], rows: usize, i: usize)
+    requires { ⌜ i < 8 ⌝ }
+{
+    if rows <= i {
+        return;
+    }
+    let s = segments::row(table, i);
+    print_value(b" | ", s.start as u64 * 16);
+    print_value(b" ", s.length as u64 * 16);
+    print_value(b" ", s.owner as u64);
+    print_value(b" ", s.requested as u64);
+}
+
+// The rows in use of a table of 8, on one line.
+pub fn print_rows(rows_in_use: u32, table: &[u32; 32]) {
+    let rows = rows_in_use as usize;
+    print_value(b"rows ", rows as u64);
+    print_row(table, rows, 0);
+    print_row(table, rows, 1);
+    print_row(table, rows, 2);
+    print_row(table, rows, 3);
+    print_row(table, rows, 4);
+    print_row(table, rows, 5);
+    print_row(table, rows, 6);
+    print_row(table, rows, 7);
+    end_line();
 }

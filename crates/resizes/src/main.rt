@@ -1,17 +1,17 @@
 // Document 02's cases of a resize, request [2] with [1]'s order of refusals, and both sides of each edge. Each call is printed with its answer, `ok`
 // and the value or `no` and the papers' number. What the papers' rules give stands in `stdout`, beside `src/`. Each heap has 16 granules and 8 rows.
-ghost use Prim.Native.Nat.{_<_, _≤_, _+_};
+ghost use Prim.Native.Nat.{_≤_, _+_};
 use heap::Heap;
-use model::Made;
 use model::Plan;
 use model::Resized;
-use model::Totals;
 use printing::end_line;
 use printing::print_freed;
-use printing::print_no;
+use printing::print_made;
 use printing::print_ok;
 use printing::print_placed;
 use printing::print_refusal;
+use printing::print_rows;
+use printing::print_totals;
 use printing::print_value;
 
 // An answer that is bytes given back, as a return's, says so.
@@ -26,19 +26,17 @@ fn print_resized(resized: Resized) {
     }
 }
 
-// A making answers no value: what is printed is the arena's length. Owner 1 has the largest quotas there are, owner 2 has 4 granules and 1 block.
+// Owner 1 has the largest quotas there are, owner 2 has 4 granules and 1 block.
 fn init(table: &mut [u32; 32], arena: &mut [u8; 256]) -> Heap {
     io::write_all(1, b"init 256 bytes 8 rows");
     let plan = Plan {
+        base: 0,
         granule_quotas: [65536, 4, 0, 0, 0, 0, 0, 0],
         block_quotas: [256, 1, 0, 0, 0, 0, 0, 0],
     };
     let out = heap::init(arena, table, plan);
     let made = out.made;
-    match made {
-        Made::Done => print_ok(256),
-        Made::Refused(why) => print_no(model::init_number(why)),
-    }
+    print_made(made, 256);
     out.heap
 }
 
@@ -110,35 +108,6 @@ fn write(arena: &mut [u8; 256], count: usize, value: u8, at: usize)
     segments::fill(arena, at, count, value);
 }
 
-// Row i, if it is in use: start, length, owner and requested, all but the owner in bytes.
-fn print_row(table: &[u32; 32], rows: usize, i: usize)
-    requires { ⌜ i < 8 ⌝ }
-{
-    if rows <= i {
-        return;
-    }
-    let s = segments::row(table, i);
-    print_value(b" | ", s.start as u64 * 16);
-    print_value(b" ", s.length as u64 * 16);
-    print_value(b" ", s.owner as u64);
-    print_value(b" ", s.requested as u64);
-}
-
-// The rows in use, on one line.
-fn print_rows(heap: Heap, table: &[u32; 32]) {
-    let rows = heap.rows as usize;
-    print_value(b"rows ", rows as u64);
-    print_row(table, rows, 0);
-    print_row(table, rows, 1);
-    print_row(table, rows, 2);
-    print_row(table, rows, 3);
-    print_row(table, rows, 4);
-    print_row(table, rows, 5);
-    print_row(table, rows, 6);
-    print_row(table, rows, 7);
-    end_line();
-}
-
 fn print_run(from: usize, value: u8) {
     print_value(b" ", from as u64);
     print_value(b":", value as u64);
@@ -159,28 +128,14 @@ fn print_bytes(arena: &[u8; 256]) {
 }
 
 fn show(heap: Heap, table: &[u32; 32], arena: &[u8; 256]) {
-    print_rows(heap, table);
+    print_rows(heap.rows, table);
     print_bytes(arena);
 }
 
 fn totals(heap: Heap, table: &[u32; 32]) {
     io::write_all(1, b"totals");
     let totals = heap::totals(heap, table);
-    match totals {
-        Totals::Bytes {
-            used,
-            free,
-            peak,
-            longest,
-        } => {
-            print_value(b": used ", used as u64);
-            print_value(b" free ", free as u64);
-            print_value(b" peak ", peak as u64);
-            print_value(b" longest ", longest as u64);
-            end_line();
-        }
-        Totals::Refused(why) => print_refusal(why),
-    }
+    print_totals(totals);
 }
 
 // A resize by owner 1, and what it leaves.
