@@ -1,7 +1,10 @@
 // Document 02's cases of a base address, request [3], and both sides of each edge. Each call is printed with its answer, `ok` and the value or `no` and
 // the papers' number, and a place also with its address, base plus offset. What the papers' rules give stands in `stdout`, beside `src/`. All blocks are
 // owner 1's, who has the largest quotas there are, so 5 and 6 never apply.
+use heap::Allocated;
 use heap::Heap;
+use heap::Reallocated;
+use heap::Released;
 use model::Placed;
 use model::Plan;
 use model::Resized;
@@ -68,41 +71,59 @@ fn init_257(arena: &mut [u8], table: &mut [u32], base: u32) {
     init_with(arena, table, base, 257);
 }
 
-fn alloc(heap: Heap, table: &mut [u32], size: u32) -> Heap {
-    print_word(b"owner 1 alloc ", size);
-    let out = heap::alloc(heap, table, 1, size);
+// The answer of an allocation, of a free and of a resize, and the record afterwards.
+fn allocated(out: Allocated) -> Heap {
     let placed = out.placed;
     let h = out.heap;
     print_placed(h.base, placed);
     h
 }
 
-fn alloc_aligned(heap: Heap, table: &mut [u32], size: u32, align: u32) -> Heap {
-    print_word(b"owner 1 alloc ", size);
-    print_word(b" on ", align);
-    let out = heap::alloc_aligned(heap, table, 1, size, align);
-    let placed = out.placed;
-    let h = out.heap;
-    print_placed(h.base, placed);
-    h
-}
-
-fn free(heap: Heap, table: &mut [u32], arena: &mut [u8], offset: u32) -> Heap {
-    print_word(b"owner 1 free ", offset);
-    let out = heap::free(heap, table, arena, 1, offset);
+fn released(out: Released) -> Heap {
     let freed = out.freed;
     print_freed(freed);
     out.heap
 }
 
-fn realloc(heap: Heap, table: &mut [u32], arena: &mut [u8], offset: u32, size: u32) -> Heap {
-    print_word(b"owner 1 realloc ", offset);
-    print_word(b" to ", size);
-    let out = heap::realloc(heap, table, arena, 1, offset, size);
+fn reallocated(out: Reallocated) -> Heap {
     let resized = out.resized;
     let h = out.heap;
     print_resized(h.base, resized);
     h
+}
+
+fn print_aligned(size: u32, align: u32) {
+    print_word(b"owner 1 alloc ", size);
+    print_word(b" on ", align);
+}
+
+fn print_realloc(offset: u32, size: u32) {
+    print_word(b"owner 1 realloc ", offset);
+    print_word(b" to ", size);
+}
+
+fn alloc(heap: Heap, table: &mut [u32], size: u32) -> Heap {
+    print_word(b"owner 1 alloc ", size);
+    let out = heap::alloc(heap, table, 1, size);
+    allocated(out)
+}
+
+fn alloc_aligned(heap: Heap, table: &mut [u32], size: u32, align: u32) -> Heap {
+    print_aligned(size, align);
+    let out = heap::alloc_aligned(heap, table, 1, size, align);
+    allocated(out)
+}
+
+fn free(heap: Heap, table: &mut [u32], arena: &mut [u8], offset: u32) -> Heap {
+    print_word(b"owner 1 free ", offset);
+    let out = heap::free(heap, table, arena, 1, offset);
+    released(out)
+}
+
+fn realloc(heap: Heap, table: &mut [u32], arena: &mut [u8], offset: u32, size: u32) -> Heap {
+    print_realloc(offset, size);
+    let out = heap::realloc(heap, table, arena, 1, offset, size);
+    reallocated(out)
 }
 
 fn block_size(heap: Heap, table: &[u32], offset: u32) {
@@ -410,31 +431,21 @@ fn record_base() {
 }
 
 fn driver_alloc(heap: Heap, table: &mut [u32], size: u32, align: u32) -> Heap {
-    print_word(b"owner 1 alloc ", size);
-    print_word(b" on ", align);
+    print_aligned(size, align);
     let out = driver::alloc_aligned_by_value(heap, table, 1, size, align);
-    let placed = out.placed;
-    let h = out.heap;
-    print_placed(h.base, placed);
-    h
+    allocated(out)
 }
 
 fn driver_free(heap: Heap, table: &mut [u32], arena: &mut [u8], offset: u32) -> Heap {
     print_word(b"owner 1 free ", offset);
     let out = driver::free_by_value(heap, table, arena, 1, offset);
-    let freed = out.freed;
-    print_freed(freed);
-    out.heap
+    released(out)
 }
 
 fn driver_realloc(heap: Heap, table: &mut [u32], arena: &mut [u8], offset: u32, size: u32) -> Heap {
-    print_word(b"owner 1 realloc ", offset);
-    print_word(b" to ", size);
+    print_realloc(offset, size);
     let out = driver::realloc_by_value(heap, table, arena, 1, offset, size);
-    let resized = out.resized;
-    let h = out.heap;
-    print_resized(h.base, resized);
-    h
+    reallocated(out)
 }
 
 // The block that was lent on 64 moves to an address on 16.

@@ -1,12 +1,11 @@
 // Document 01's "Run:" cases, in its order and under its words. Each call is printed with its answer, `ok` and the value or `no` and document 01's
 // number. What 01's rules give stands in `stdout`, beside `src/`.
-ghost use Prim.Native.Nat.{_<_};
 use heap::Heap;
 use model::Plan;
-use printing::end_line;
 use printing::print_freed;
 use printing::print_made;
 use printing::print_placed;
+use printing::print_rows;
 use printing::print_value;
 
 fn print_capacity(rows: usize) {
@@ -57,36 +56,6 @@ fn free(heap: Heap, table: &mut [u32], arena: &mut [u8], offset: u32) -> Heap {
     let freed = out.freed;
     print_freed(freed);
     out.heap
-}
-
-// Row i, if it is in use: start, length, owner and requested, all but the owner in bytes.
-fn print_row(table: &[u32; 32], rows: usize, i: usize)
-    requires { ⌜ i < 8 ⌝ }
-{
-    if rows <= i {
-        return;
-    }
-    let s = segments::row(table, i);
-    print_value(b"row ", s.start as u64 * 16);
-    print_value(b" ", s.length as u64 * 16);
-    print_value(b" ", s.owner as u64);
-    print_value(b" ", s.requested as u64);
-    end_line();
-}
-
-// The rows in use of a table of 8.
-fn print_rows(heap: Heap, table: &[u32; 32]) {
-    let rows = heap.rows as usize;
-    print_value(b"rows in use ", rows as u64);
-    end_line();
-    print_row(table, rows, 0);
-    print_row(table, rows, 1);
-    print_row(table, rows, 2);
-    print_row(table, rows, 3);
-    print_row(table, rows, 4);
-    print_row(table, rows, 5);
-    print_row(table, rows, 6);
-    print_row(table, rows, 7);
 }
 
 // A block at 0 comes first, so that an alignment shows in the offset.
@@ -163,9 +132,9 @@ fn free_three(heap: Heap, table: &mut [u32; 32], arena: &mut [u8; 256]) {
     let mut h = heap;
     h = free(h, table, arena, 16);
     h = free(h, table, arena, 96);
-    print_rows(h, table);
+    print_rows(h.rows, table);
     h = free(h, table, arena, 64);
-    print_rows(h, table);
+    print_rows(h.rows, table);
 }
 
 fn between_holes() {

@@ -52,12 +52,13 @@ two-units m x h =
     let w : m - (x - m) ≡ 2 * m - x = omega tests in
     rw (y, w))
 
--- Padding past a boundary: only the remainder of each part of the sum counts.
+-- The padding of a sum, from two units less the first part and the remainder of the second: what `padding_of` computes.
 pub padding-two : (m p s : ℕ) → p < m → (2 * m - p - s % m) % m ≡ padding m (p + s)
 padding-two m p s h =
     let r : s % m < m = mod-lt s (omega arith) in
     let z : 2 * m - p - s % m ≡ 2 * m - (p + s % m) = omega arith in
     ap (λ (i : ℕ). i % m) z ∙ two-units m (p + s % m) (omega arith) ∙ ap (λ (i : ℕ). (m - i) % m) (add-mod-mod p s m)
 
+-- Of the first part of a sum only the remainder counts for its padding.
 pub padding-past : (m p s : ℕ) → padding m (p % m + s) ≡ padding m (p + s)
 padding-past m p s = ap (λ (i : ℕ). (m - i) % m) (mod-add-mod p m s)
