@@ -21,14 +21,14 @@ use Rattle.model.specs.declared.Plan.{Plan}
 abbrev row : ℕ → ℕ → ℕ → ℕ → Segment
 row s l o n = record { start = s; length = l; owner = o; requested = n }
 
--- A heap of 16 granules: its base, its table's rows, its live blocks.
+-- A heap of 16 granules without guards: its base, its table's rows, its live blocks. (An allocation of it is lent no arena, which it does not look at.)
 pub data Heap : Type 0 where
   heap : (base rows : ℕ) (blocks : List Segment) → Heap
 
 -- Owner 1 may have 8 granules in 3 blocks, owner 2 may have 32 in 9, owner 3 may have 4 in 9, owner 4 may have no block, the others nothing.
 abbrev config : Heap → Config
 config (heap b t bs) =
-    record { granules = 16; base = b; capacity = t; granuleQuotas = 8 ∷ 32 ∷ 4 ∷ 32 ∷ replicate 4 0; blockQuotas = 3 ∷ 9 ∷ 9 ∷ replicate 5 0 }
+    record { granules = 16; base = b; guards = 0; capacity = t; granuleQuotas = 8 ∷ 32 ∷ 4 ∷ 32 ∷ replicate 4 0; blockQuotas = 3 ∷ 9 ∷ 9 ∷ replicate 5 0 }
 
 abbrev state : Heap → State
 state (heap b t bs) = record { blocks = bs; peak = 8 }
@@ -355,15 +355,15 @@ edges = ranges ++ (makings ++ (requests ++ (resizes ++ others)))
 
 -- A plan with a base and a granule quota of owner 8.
 abbrev plan : ℕ → ℕ → Plan
-plan b q = record { base = b; «granule_quotas» = replicate 7 0 ++ (q ∷ []); «block_quotas» = replicate 8 256 }
+plan b q = record { base = b; guarded = false; «granule_quotas» = replicate 7 0 ++ (q ∷ []); «block_quotas» = replicate 8 256 }
 
 -- What a heap is made with that has so many granules, a base, and all quotas as large as they may be.
 abbrev ample : ℕ → ℕ → Config
-ample g b = record { granules = g; base = b; capacity = 1; granuleQuotas = replicate 8 65536; blockQuotas = replicate 8 256 }
+ample g b = record { granules = g; base = b; guards = 0; capacity = 1; granuleQuotas = replicate 8 65536; blockQuotas = replicate 8 256 }
 
 -- Demand 3's heap, at a base.
 abbrev wide : ℕ → ℕ → Config
-wide t b = record { granules = 4096; base = b; capacity = t; granuleQuotas = replicate 8 128; blockQuotas = replicate 8 8 }
+wide t b = record { granules = 4096; base = b; guards = 0; capacity = t; granuleQuotas = replicate 8 128; blockQuotas = replicate 8 8 }
 
 -- Both tests hold, or neither does.
 abbrev same : Bool → Bool → Bool
@@ -410,8 +410,8 @@ holds (making bytes words b q number) =
     (both (filled bytes 0 (arenaAfterInit arena table p)) (madeWith bytes words b q (initConfig arena table p)))
     (filled bytes 7 (arenaAfterInit arena table p)))
 holds (request h o n a number x) =
-    let after : State = afterAlloc (isValid h) (config h) (state h) o n a in
-    both (answers number x (placedNumbered (alloc (isValid h) (config h) (state h) o n a)))
+    let after : State = afterAlloc (isValid h) (config h) (state h) [] o n a in
+    both (answers number x (placedNumbered (alloc (isValid h) (config h) (state h) [] o n a)))
     (choose (eqb number 0) (isLiveAt (length (state h .blocks) + 1) x o n after) (eqb (length (after .blocks)) (length (state h .blocks))))
 holds (resize t o x n number v) =
     atEach (λ (b : ℕ).

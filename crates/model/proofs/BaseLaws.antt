@@ -12,12 +12,12 @@ use lib.Dec.{leb, eqb}
 use lib.ListN.{length}
 use borrow.Author.Tests.{not-false, le-leb, lt-leb, eq-eqb, ne-eqb}
 use Rattle.model.specs.Choose.{given}
-use Rattle.model.specs.Quantities.{isArena, isBase, isTable, isAlignment, quotasInRange, Config, inRange}
+use Rattle.model.specs.Quantities.{within, isArena, isBase, isTable, isAlignment, quotasInRange, Config, inRange}
 use Rattle.model.specs.Allocation.{needed, State, serves, lowestStart, fit, put, offset, refit, resize, bytes, changed, without}
-use Rattle.model.specs.Arena.{zeroed, moved}
+use Rattle.model.specs.Arena.{zeroed, moved, withGuard}
 use Rattle.model.specs.Reasons.{invalidHeap, badTable, badQuota}
 use Rattle.model.specs.Orders.{firstReason, unless, allocOrder, freeOrder, reallocOrder, blockSizeOrder, initOrder, properOrder, quotaOrder, placeOrder}
-use Rattle.model.specs.Rules.{init, initConfig, bytesAt, alloc, afterAlloc, grantedAlloc, free, afterFree, returnedFree, arenaAfterFree, blockSize, realloc, afterRealloc, grantedRealloc, returnedRealloc, arenaAfterRealloc, totalsOf, holdingOf}
+use Rattle.model.specs.Rules.{init, initConfig, bytesAt, withoutGuardAt, alloc, afterAlloc, grantedAlloc, arenaAfterAlloc, free, afterFree, returnedFree, arenaAfterFree, blockSize, realloc, afterRealloc, grantedRealloc, returnedRealloc, arenaAfterRealloc, totalsOf, holdingOf}
 use Rattle.model.specs.Numbers.{madeNumbered}
 use Rattle.model.specs.Bound.{rowsSuffice, bound}
 use Rattle.model.proofs.Choosing.{split, splitOption, tests, parts, ne-of-eqb, least-same}
@@ -35,10 +35,10 @@ use Rattle.model.specs.declared.InitRefusal.the-variants as initRefusal
 use Rattle.model.specs.declared.Made.the-variants as made
 
 -- The address of a block that an allocation is granted, the base plus the offset answered, is on the boundary asked.
-pub alloc-address : (v : Bool) (c : Config) (h : State) (o n a x : ℕ) → alloc v c h o n a ≡ placed.At x → (c .base + x) % a ≡ 0
-alloc-address v c h o n a x e =
-    splitOption (firstReason (allocOrder v c h o n a))
-    (λ q. let r : Allocated c h o n a = allocated c h v o n a q in
+pub alloc-address : (v : Bool) (c : Config) (h : State) (arena : List ℕ) (o n a x : ℕ) → alloc v c h arena o n a ≡ placed.At x → (c .base + x) % a ≡ 0
+alloc-address v c h arena o n a x e =
+    splitOption (firstReason (allocOrder v c h arena o n a))
+    (λ q. let r : Allocated c h o n a = allocated c h v arena o n a q in
     let e′ : placed.At (16 * r .start) ≡ placed.At x = rw (q, r .fits) at e in
     let at : 16 * r .start ≡ x = cc in
     rw (← at) (lowest-place c (h .blocks) (needed c n) a (r .start) (r .lowest) .aligned))
@@ -46,7 +46,7 @@ alloc-address v c h o n a x e =
 
 -- What a heap is made with, the same but for the base.
 abbrev pub atBase : ℕ → Config → Config
-atBase b c = record { granules = c .granules; base = b; capacity = c .capacity; granuleQuotas = c .granuleQuotas; blockQuotas = c .blockQuotas }
+atBase b c = record { granules = c .granules; base = b; guards = c .guards; capacity = c .capacity; granuleQuotas = c .granuleQuotas; blockQuotas = c .blockQuotas }
 
 -- Of two bases with the same remainder by a:
 module _ (c : Config) (b a : ℕ) (e : c .base % a ≡ b % a) (bs : List Segment) where
@@ -72,36 +72,40 @@ remainder-alike x y a h e =
     sym (mod-mod-of-dvd a x d) ∙ ap (λ r. r % a) e ∙ mod-mod-of-dvd a y d
 
 -- Of two bases with the same remainder by 4,096 an allocation, on whatever boundary:
-module _ (c : Config) (b : ℕ) (e : c .base % 4096 ≡ b % 4096) (v : Bool) (h : State) (o n a : ℕ) where
+module _ (c : Config) (b : ℕ) (e : c .base % 4096 ≡ b % 4096) (v : Bool) (h : State) (arena : List ℕ) (o n a : ℕ) where
   -- on an alignment the block is the same
   same-fit : isAlignment a ≡ true → fit c (h .blocks) o n a ≡ fit (atBase b c) (h .blocks) o n a
   same-fit q = fit-alike c b a (remainder-alike (c .base) b a q e) (h .blocks) o n
 
   -- is refused for the same reason, if for any (for 4 at the latest, if a is no alignment),
-  pub order-alike : firstReason (allocOrder v c h o n a) ≡ firstReason (allocOrder v (atBase b c) h o n a)
+  pub order-alike : firstReason (allocOrder v c h arena o n a) ≡ firstReason (allocOrder v (atBase b c) h arena o n a)
   unfolding allocOrder
   order-alike = split (isAlignment a) (λ q. rw (same-fit q)) (λ q. rw q)
 
   -- what is made of the order and of the block is the same
   allocates : {A : Type 0} (f : Option Segment → A) (refused : Refusal → A)
-      → unless (allocOrder v c h o n a) (f (fit c (h .blocks) o n a)) refused
-      ≡ unless (allocOrder v (atBase b c) h o n a) (f (fit (atBase b c) (h .blocks) o n a)) refused
+      → unless (allocOrder v c h arena o n a) (f (fit c (h .blocks) o n a)) refused
+      ≡ unless (allocOrder v (atBase b c) h arena o n a) (f (fit (atBase b c) (h .blocks) o n a)) refused
   allocates f refused =
-      rw (← order-alike) (splitOption (firstReason (allocOrder v c h o n a))
-      (λ q. rw q (ap f (same-fit (allocated c h v o n a q .limited .alignment))))
+      rw (← order-alike) (splitOption (firstReason (allocOrder v c h arena o n a))
+      (λ q. rw q (ap f (same-fit (allocated c h v arena o n a q .limited .alignment))))
       (λ r q. rw q))
 
   -- answers the same,
-  pub alloc-alike : alloc v c h o n a ≡ alloc v (atBase b c) h o n a
+  pub alloc-alike : alloc v c h arena o n a ≡ alloc v (atBase b c) h arena o n a
   alloc-alike = allocates (λ f. placed.At (given f 0 offset)) placed.Refused
 
-  -- leaves the same state
-  pub after-alloc-alike : afterAlloc v c h o n a ≡ afterAlloc v (atBase b c) h o n a
+  -- leaves the same state,
+  pub after-alloc-alike : afterAlloc v c h arena o n a ≡ afterAlloc v (atBase b c) h arena o n a
   after-alloc-alike = allocates (λ f. changed h (put f (h .blocks))) (λ r. h)
 
-  -- and is granted the same granules.
-  pub granted-alloc-alike : grantedAlloc v c h o n a ≡ grantedAlloc v (atBase b c) h o n a
+  -- is granted the same granules
+  pub granted-alloc-alike : grantedAlloc v c h arena o n a ≡ grantedAlloc v (atBase b c) h arena o n a
   granted-alloc-alike = allocates (λ f. given f 0 (λ (d : Segment). d .length)) (λ r. 0)
+
+  -- and leaves the same arena.
+  pub arena-alloc-alike : arenaAfterAlloc v c h arena o n a ≡ arenaAfterAlloc v (atBase b c) h arena o n a
+  arena-alloc-alike = allocates (λ f. given f arena (λ d. withGuard c d arena)) (λ r. arena)
 
 -- Whatever the base, a free:
 module _ (c : Config) (b : ℕ) (v : Bool) (h : State) (arena : List ℕ) (o x : ℕ) where
@@ -142,10 +146,10 @@ module _ (c : Config) (b : ℕ) where
   holding-alike v h o = refl
 
   -- of an allocation's order, but for 1, which is handed in, only 7 and 8 depend on it, by the place,
-  pub order-at : (v : Bool) (h : State) (o n a : ℕ)
-      → allocOrder v (atBase b c) h o n a ≡ invalidHeap v ∷ (properOrder o n a ++ (quotaOrder c h o n ++ placeOrder (atBase b c) h o n a))
+  pub order-at : (v : Bool) (h : State) (arena : List ℕ) (o n a : ℕ)
+      → allocOrder v (atBase b c) h arena o n a ≡ invalidHeap v ∷ (properOrder c arena o n a ++ (quotaOrder c h o n ++ placeOrder (atBase b c) h o n a))
   unfolding allocOrder
-  order-at v h o n a = refl
+  order-at v h arena o n a = refl
 
   -- and demand 3's condition
   pub bound-alike : (g m : ℕ) → bound c g m ≡ bound (atBase b c) g m
@@ -192,7 +196,7 @@ module _ (c : Config) (b : ℕ) (e : c .base % 16 ≡ b % 16) where
     -- and leaves the same arena.
     pub arena-realloc-alike : arenaAfterRealloc v c h arena o x n ≡ arenaAfterRealloc v (atBase b c) h arena o x n
     arena-realloc-alike =
-        resizes (λ f. given f (zeroed x (bytesAt h x) arena) (λ d. moved x (bytesAt h x) (offset d) (bytes d) arena)) (λ r. arena)
+        resizes (λ f. given f (zeroed x (bytesAt h x) arena) (λ d. withGuard c d (moved x (bytesAt h x) (offset d) (bytes d) (withoutGuardAt c h x arena)))) (λ r. arena)
 
 -- Of an arena whose length is allowed a making is refused with 18 exactly if the base is not a multiple of 16 or the arena ends past 4,294,967,296.
 pub eighteen-exactly : (arena words : List ℕ) (p : Plan) → isArena (length arena) ≡ true
@@ -220,9 +224,9 @@ eighteen-exactly arena words p allowed = (
 pub base-inside : (c : Config) → inRange c ≡ true → (x : ℕ) → x < 16 * c .granules → c .base + x ≤ 4294967295
 base-inside c ranged x l = omega (arith, base-ends c ranged)
 
--- A plan with the same quotas and another base.
+-- A plan with the same guards and quotas, and another base.
 abbrev pub planAt : ℕ → Plan → Plan
-planAt b p = record { base = b; «granule_quotas» = p .«granule_quotas»; «block_quotas» = p .«block_quotas» }
+planAt b p = record { base = b; guarded = p .guarded; «granule_quotas» = p .«granule_quotas»; «block_quotas» = p .«block_quotas» }
 
 -- A heap is made with the base of its plan, and else as with any other base.
 pub made-at : (arena words : List ℕ) (p : Plan) (b : ℕ) → initConfig arena words (planAt b p) ≡ atBase b (initConfig arena words p)
@@ -235,7 +239,8 @@ range-exactly c e = (
   λ w. let q : quotasInRange (c .granuleQuotas) (c .blockQuotas) ≡ true = search parts in
       let a : isArena (16 * c .granules) ≡ true = search parts in
       let t : isTable (4 * c .capacity) ≡ true = search parts in
-      rw (q, a, t, eq-eqb (c .base % 16) 0 (w .0), le-leb (c .base + 16 * c .granules) 4294967296 (w .1)),
+      let g : within 0 1 (c .guards) ≡ true = search parts in
+      rw (q, a, g, t, eq-eqb (c .base % 16) 0 (w .0), le-leb (c .base + 16 * c .granules) 4294967296 (w .1)),
 )
 
 -- With another base that is allowed exactly if its own is, a making answers the same.

@@ -1,7 +1,7 @@
--- A resize in place, and one back to the old length: that is not refused, and the rows have the starts, lengths and owners that they had.
+-- A resize in place, and one back to the old length that finds the block's guard whole: that is not refused, and the rows have the starts, lengths and owners that they had.
 -- Assumes nothing.
 use mathlib.Core.Path.{_≡_, refl, sym, ap, _∙_, subst}
-use mathlib.Core.Bool.{Bool, true, not}
+use mathlib.Core.Bool.{Bool, true, false, not}
 use mathlib.Core.List.{List, [], _∷_, map, map-append}
 use mathlib.Core.Option.{none, some}
 use Prim.Native.Nat.{ℕ, _+_, _/_, _≤_, _<_}
@@ -12,7 +12,7 @@ use borrow.Author.Tests.{lt-ltb, le-ltb, eq-eqb, ne-eqb}
 use Rattle.model.specs.Choose.{total}
 use Rattle.model.specs.Quantities.{Config, quota}
 use Rattle.model.specs.Allocation.{needed, charge, State, block, insert, offset, blockAt, without, stays, refit, ownedBy}
-use Rattle.model.specs.Arena.{hasRecordedLength}
+use Rattle.model.specs.Arena.{hasRecordedLength, isBroken}
 use Rattle.model.specs.SegmentMap.{mapFrom, mapOf, rowsOf}
 use Rattle.model.specs.Orders.{firstReason, freeOrder, newLengthOrder, reallocOrder}
 use Rattle.model.specs.Rules.{afterRealloc}
@@ -24,7 +24,7 @@ use Rattle.model.proofs.Kept.{Kept}
 use Rattle.model.proofs.Refitted.{free-first, size-decides}
 use Rattle.model.proofs.Released.{Released, released}
 use Rattle.model.proofs.Resizing.{owner-without, keep-realloc}
-use Rattle.model.proofs.Asked.{free-asks, first-byte}
+use Rattle.model.proofs.Asked.{guard-decides, first-byte}
 use Rattle.model.proofs.Staying.{without-later, same-stays}
 use Rattle.model.specs.declared.Segment.{Segment}
 
@@ -83,12 +83,13 @@ shape-requesting e m s b (x ∷ xs) =
     (λ q. rw q (simp map-append))
     (λ q. rw q (simp (map-append, shape-requesting e m (x .start + x .length) b xs)))
 
--- After a resize to n bytes in which the block `old` at x stays, a resize to m bytes, which need the old length:
+-- After a resize to n bytes in which the block `old` at x stays, a resize to m bytes, which need the old length, that finds the guard whole:
 module _ (v : Bool) (c : Config) (h : State) (k : Kept c h) (arena : List ℕ) (o x n : ℕ) (hn : 1 ≤ n)
     (e : firstReason (reallocOrder v c h arena o x n) ≡ none)
     (old : Segment) (was : blockAt x (h .blocks) ≡ some old) (st : stays c (h .blocks) x n ≡ true)
     (h′ : State) (is : h′ ≡ afterRealloc v c h arena o x n)
-    (m : ℕ) (hm : 1 ≤ m) (fits : needed c m ≡ old .length) (arena′ : List ℕ) (whole : hasRecordedLength c arena′ ≡ true) where
+    (m : ℕ) (hm : 1 ≤ m) (fits : needed c m ≡ old .length) (arena′ : List ℕ) (whole : hasRecordedLength c arena′ ≡ true)
+    (unbroken : isBroken c arena′ (block c o n (x / 16)) ≡ false) where
   begun : Begins c 0 x (h .blocks) old
   begun = begins c 0 x (h .blocks) old (k .ordered) was
 
@@ -132,9 +133,9 @@ module _ (v : Bool) (c : Config) (h : State) (k : Kept c h) (arena : List ℕ) (
   -- none of a free's reasons applies, nor 6, nor 8
   free-granted : firstReason (freeOrder true c h′ arena′ o x) ≡ none
   free-granted =
-      free-asks c h′ arena′ o x whole
-      ∙ first-byte c h′ o x (free .owner) (subst (Kept c) (sym is) (keep-realloc c h k v arena o x n)) now there
-      ∙ rw (there, eq-eqb o o refl)
+      guard-decides c h′ arena′ o x whole
+      (first-byte c h′ o x (free .owner) (subst (Kept c) (sym is) (keep-realloc c h k v arena o x n)) now there ∙ rw (there, eq-eqb o o refl))
+      ∙ rw (there, unbroken)
 
   granules-suffice : total (charge c) (ownedBy o (without x (h .blocks))) + needed c m ≤ quota (c .granuleQuotas) o
   granules-suffice =

@@ -22,6 +22,10 @@ module _ (x k y m : ℕ) (arena : List ℕ) (from : x + k ≤ length arena) (to 
   fits : y + min k m ≤ length (zeroed x k arena)
   fits = omega (arith, length-zeroed x k arena from)
 
+  -- The arena keeps its length.
+  pub length-moved : length (moved x k y m arena) ≡ length arena
+  length-moved = length-written y (min k m) (slice x (min k m) arena) (zeroed x k arena) part-long fits ∙ length-zeroed x k arena from
+
   -- A byte is one that came along, zero if it is another of the k, and else as it was.
   pub moved-each : (i : ℕ) → getD (moved x k y m arena) i 0
       ≡ choose (both (leb y i) (ltb i (y + min k m))) (getD arena (x + (i - y)) 0) (choose (both (leb x i) (ltb i (x + k))) 0 (getD arena i 0))

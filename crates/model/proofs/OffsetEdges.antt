@@ -12,9 +12,9 @@ use Rattle.model.specs.Allocation.{State, block}
 use Rattle.model.specs.Orders.{blockOrder}
 use Rattle.model.proofs.Refinement.{refusalNumber}
 
--- A heap of 128 bytes, with 8 rows, and quotas of 8 granules and 8 blocks.
+-- A heap of 128 bytes without guards, with 8 rows, and quotas of 8 granules and 8 blocks.
 abbrev small : Config
-small = record { granules = 8; base = 0; capacity = 8; granuleQuotas = replicate 8 8; blockQuotas = replicate 8 8 }
+small = record { granules = 8; base = 0; guards = 0; capacity = 8; granuleQuotas = replicate 8 8; blockQuotas = replicate 8 8 }
 
 -- Owner 1 has a block of 40 bytes at 0, in three granules, and one of 17 at 80, in two; owner 2 has one of 16 bytes at 64. 48 to 63 and 112 to 127 are free.
 abbrev held : State

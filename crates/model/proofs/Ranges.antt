@@ -81,6 +81,12 @@ module _ (c : Config) (e : inRange c ≡ true) where
   pub base-ends : c .base + 16 * c .granules ≤ 4294967296
   base-ends = leb-true (c .base + 16 * c .granules) 4294967296 (search parts)
 
+  pub guards-range : within 0 1 (c .guards) ≡ true
+  guards-range = search parts
+
+  pub few-guards : c .guards ≤ 1
+  few-guards = within-most 0 1 (c .guards) guards-range
+
   pub some-rows : 1 ≤ c .capacity
   some-rows = let r : within 4 2048 (4 * c .capacity) ≡ true = search parts in omega (arith, within-least 4 2048 (4 * c .capacity) r)
 

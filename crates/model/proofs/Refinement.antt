@@ -1,8 +1,8 @@
--- Document 02's first request refines document 01's orders: it tells number 9 apart, and changes nothing else.
+-- Document 02's first request refines document 01's orders: it tells number 9 apart, and changes nothing else. Its fourth puts 19 last in a return and 11 after 1 in an ask; without guards neither applies.
 -- Assumes nothing.
-use mathlib.Core.Path.{_≡_, refl, _∙_}
+use mathlib.Core.Path.{_≡_, refl, sym, _∙_}
 use mathlib.Core.Bool.{Bool, true, false}
-use mathlib.Core.List.{List, [], _∷_}
+use mathlib.Core.List.{List, [], _∷_, _++_}
 use mathlib.Core.Option.{none, some}
 use Prim.Native.Nat.{ℕ, _*_, _/_, _%_}
 use lib.Dec.{leb, eqb}
@@ -10,13 +10,15 @@ use borrow.Author.Tests.{not-false, lt-ltb}
 use Rattle.model.specs.Choose.{given, isNone, isAmong}
 use Rattle.model.specs.Quantities.{Config}
 use Rattle.model.specs.Allocation.{State, blockAt, blockOver}
-use Rattle.model.specs.Reasons.{Reason, invalidHeap, otherArena, badOwner, otherOwner}
-use Rattle.model.specs.Orders.{Order, firstReason, unless, offsetOrder, freeOrder, blockSizeOrder}
+use Rattle.model.specs.Reasons.{Reason, invalidHeap, otherArena, badOwner, otherOwner, brokenGuard}
+use Rattle.model.specs.Orders.{Order, firstReason, unless, offsetOrder, allocOrder, freeOrder, blockSizeOrder, requestOrder, quotaOrder, placeOrder}
 use Rattle.model.specs.Numbers.{numberOf, numberedBy}
 use Rattle.model.proofs.Choosing.{split, splitOption, tests, clash}
+use Rattle.model.proofs.Refusing.{first-then, first-stays}
 use Rattle.model.proofs.Offsets.{over-inside}
 use Rattle.model.proofs.Kept.{Kept}
 use Rattle.model.proofs.Asked.{none-of-the-four}
+use Rattle.model.proofs.Guards.{no-19}
 use Rattle.model.specs.declared.Segment.{Segment}
 use Rattle.model.specs.declared.Refusal.{Refusal}
 use Rattle.model.specs.declared.Refusal.the-variants as refusal
@@ -34,6 +36,14 @@ module _ (isValid : Bool) (c : Config) (h : State) where
   abbrev pub freeOrder01 : List ℕ → ℕ → ℕ → Order Refusal
   freeOrder01 arena o x =
       invalidHeap isValid ∷ otherArena c arena ∷ badOwner o ∷ offsetOrder01 h o x
+
+  -- The same with document 02's 19 last: 1, 11, 2, 9, 10, 19.
+  abbrev pub guardedFreeOrder01 : List ℕ → ℕ → ℕ → Order Refusal
+  guardedFreeOrder01 arena o x = freeOrder01 arena o x ++ (brokenGuard c (h .blocks) arena x ∷ [])
+
+  -- Document 01's order for an ask: 1, 2, 3, 4, 5, 6, 7, 8.
+  abbrev pub allocOrder01 : ℕ → ℕ → ℕ → Order Refusal
+  allocOrder01 o n a = invalidHeap isValid ∷ (requestOrder o n a ++ (quotaOrder c h o n ++ placeOrder c h o n a))
 
   -- Document 01's order for a block's size: 1, 2, 9, 10.
   abbrev pub blockSizeOrder01 : ℕ → ℕ → Order Refusal
@@ -71,6 +81,28 @@ module _ (before now : Order Refusal) where
       split (r .0)
       (λ q. record { nine = rw q f; others = λ e. rw q; effects = λ x y. rw q })
       (λ q. record { nine = rw q (a q .nine); others = λ e. rw q (a q .others (rw q at e)); effects = λ x y. rw q (a q .effects x y) })
+
+-- reasons that come last in both, of which none is one of the four but 9
+refines-then : (before now rest : Order Refusal) → isOfTheFour (refusalNumber rest) ≡ eqb (refusalNumber rest) 9 → Refines before now → Refines (before ++ rest) (now ++ rest)
+refines-then before now rest f a =
+    splitOption (firstReason before)
+    (λ p. let four : isOfTheFour (refusalNumber now) ≡ false = a .nine ∙ rw p in
+    let q : firstReason now ≡ none = a .others four ∙ p in
+    refines-same (before ++ rest) (now ++ rest) (first-then now rest q ∙ sym (first-then before rest p)) (rw (first-then before rest p) f))
+    (λ r p. splitOption (firstReason now)
+    (λ q. let w : true ≡ false = rw (p, q) at (a .effects true false) in absurd (clash true refl w))
+    (λ t q. let p′ : firstReason (before ++ rest) ≡ firstReason before = first-stays before rest r p ∙ sym p in
+    let q′ : firstReason (now ++ rest) ≡ firstReason now = first-stays now rest t q ∙ sym q in
+    record { nine = rw (p′, q′) (a .nine); others = λ e. q′ ∙ a .others (rw q′ at e) ∙ sym p′; effects = λ x y. rw (p′, q′) (a .effects x y) }))
+
+-- a last reason that does not apply
+last-off : (rs : Order Refusal) (r : Reason Refusal) → r .0 ≡ false → firstReason (rs ++ (r ∷ [])) ≡ firstReason rs
+last-off rs r e = splitOption (firstReason rs) (λ q. first-then rs (r ∷ []) q ∙ rw (e, q)) (λ t q. first-stays rs (r ∷ []) t q ∙ sym q)
+
+refines-without : (before now : Order Refusal) (r : Reason Refusal) → r .0 ≡ false → Refines (before ++ (r ∷ [])) now → Refines before now
+refines-without before now r e a =
+    let p : firstReason (before ++ (r ∷ [])) ≡ firstReason before = last-off before r e in
+    record { nine = rw p at (a .nine); others = λ q. a .others q ∙ p; effects = λ x y. rw p at (a .effects x y) }
 
 -- an answer's number is that of its refusal
 number-of : (order : Order Refusal) (values : List ℕ) → numberedBy numberOf order values .0 ≡ refusalNumber order
@@ -118,8 +150,24 @@ module _ (c : Config) (h : State) (o x : ℕ) where
     size-refines =
         refines-cons _ _ (invalidHeap v) refl (λ p. refines-cons _ _ (badOwner o) refl (λ q. offset-refines (k (not-false v p))))
 
-    pub free-refines : (arena : List ℕ) → Refines (freeOrder01 v c h arena o x) (freeOrder v c h arena o x)
+    -- A return's order refines document 01's with 19 last;
+    pub free-refines : (arena : List ℕ) → Refines (guardedFreeOrder01 v c h arena o x) (freeOrder v c h arena o x)
     unfolding freeOrder
     free-refines arena =
         refines-cons _ _ (invalidHeap v) refl
-        (λ p. refines-cons _ _ (otherArena c arena) refl (λ q. refines-cons _ _ (badOwner o) refl (λ t. offset-refines (k (not-false v p)))))
+        (λ p. refines-cons _ _ (otherArena c arena) refl (λ q. refines-cons _ _ (badOwner o) refl
+        (λ t. refines-then before now (brokenGuard c (h .blocks) arena x ∷ []) (last arena) (offset-refines (k (not-false v p))))))
+      where
+        last : (arena : List ℕ) → isOfTheFour (refusalNumber (brokenGuard c (h .blocks) arena x ∷ [])) ≡ eqb (refusalNumber (brokenGuard c (h .blocks) arena x ∷ [])) 9
+        last arena = split (brokenGuard c (h .blocks) arena x .0) (λ q. rw q) (λ q. rw q)
+
+    -- without guards it refines document 01's.
+    pub free-refines-01 : c .guards ≡ 0 → (arena : List ℕ) → Refines (freeOrder01 v c h arena o x) (freeOrder v c h arena o x)
+    free-refines-01 z arena =
+        refines-without _ _ (brokenGuard c (h .blocks) arena x) (no-19 c z (h .blocks) arena x) (free-refines arena)
+
+-- Without guards an ask is refused as document 01 has it.
+pub alloc-refines-01 : (v : Bool) (c : Config) (h : State) → c .guards ≡ 0 → (arena : List ℕ) (o n a : ℕ)
+    → firstReason (allocOrder v c h arena o n a) ≡ firstReason (allocOrder01 v c h o n a)
+unfolding allocOrder
+alloc-refines-01 v c h z arena o n a = rw z

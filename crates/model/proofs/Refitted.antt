@@ -56,16 +56,24 @@ pub resize-size : (c : Config) (bs : List Segment) (o x n : ℕ) (b : Segment) �
 resize-size c bs o x n b e =
     split (eqb n 0) (λ q. let z : none ≡ some b = rw q at e in let w : _≡_ {A = ℕ} 0 1 = cc in absurd (omega arith)) (λ q. omega tests)
 
--- and that block is as long as its bytes need.
-pub resize-length : (c : Config) (bs : List Segment) (o x n : ℕ) (b : Segment) → resize c bs o x n ≡ some b → b .length ≡ needed c n
-resize-length c bs o x n b e =
+-- and that block is the owner's of n bytes at some start,
+resize-block : (c : Config) (bs : List Segment) (o x n : ℕ) (b : Segment) → resize c bs o x n ≡ some b → (s : ℕ) × (block c o n s ≡ b)
+resize-block c bs o x n b e =
     split (eqb n 0)
     (λ q. let z : none ≡ some b = rw q at e in let w : _≡_ {A = ℕ} 0 1 = cc in absurd (omega arith))
     (λ q. split (stays c bs x n)
-    (λ t. let z : some (block c o n (x / 16)) ≡ some b = rw (q, t) at e in let y : block c o n (x / 16) ≡ b = cc in ap (λ (d : Segment). d .length) (sym y))
+    (λ t. let z : some (block c o n (x / 16)) ≡ some b = rw (q, t) at e in let y : block c o n (x / 16) ≡ b = cc in (x / 16, y))
     (λ t. splitOption (lowestStart c bs (needed c n) 16)
     (λ p. let z : none ≡ some b = rw (q, t, p) at e in let w : _≡_ {A = ℕ} 0 1 = cc in absurd (omega arith))
-    (λ s p. let z : some (block c o n s) ≡ some b = rw (q, t, p) at e in let y : block c o n s ≡ b = cc in ap (λ (d : Segment). d .length) (sym y))))
+    (λ s p. let z : some (block c o n s) ≡ some b = rw (q, t, p) at e in let y : block c o n s ≡ b = cc in (s, y))))
+
+-- so it is as long as its bytes need,
+pub resize-length : (c : Config) (bs : List Segment) (o x n : ℕ) (b : Segment) → resize c bs o x n ≡ some b → b .length ≡ needed c n
+resize-length c bs o x n b e = ap (λ (d : Segment). d .length) (sym (resize-block c bs o x n b e .1))
+
+-- and has n bytes requested.
+pub resize-requested : (c : Config) (bs : List Segment) (o x n : ℕ) (b : Segment) → resize c bs o x n ≡ some b → b .requested ≡ n
+resize-requested c bs o x n b e = ap (λ (d : Segment). d .requested) (sym (resize-block c bs o x n b e .1))
 
 module _ (v : Bool) (c : Config) (h : State) (arena : List ℕ) (o x n : ℕ) where
   -- what a resize is asked beyond a free

@@ -10,7 +10,7 @@ use lib.Dec.{ltb, eqb}
 use borrow.Author.Tests.{not-false, eqb-true}
 use Rattle.model.specs.Quantities.{isOwner, Config}
 use Rattle.model.specs.Allocation.{State, bytes, blockAt, blockOver}
-use Rattle.model.specs.Arena.{hasRecordedLength}
+use Rattle.model.specs.Arena.{hasRecordedLength, isBroken}
 use Rattle.model.specs.Orders.{firstReason, freeOrder}
 use Rattle.model.specs.Rules.{free}
 use Rattle.model.proofs.Choosing.{splitOption, clash, tests}
@@ -27,6 +27,7 @@ module _ (v : Bool) (c : Config) (h : State) (arena : List ℕ) (o x : ℕ) wher
     pub block : Segment
     pub found : blockAt x (h .blocks) ≡ some block
     pub owned : block .owner ≡ o
+    pub unbroken : isBroken c arena block ≡ false
 
   pub released : firstReason (freeOrder v c h arena o x) ≡ none → Released
   unfolding freeOrder
@@ -45,6 +46,7 @@ module _ (v : Bool) (c : Config) (h : State) (arena : List ℕ) (o x : ℕ) wher
         block = b;
         found = q;
         owned = eqb-true (b .owner) o (not-false _ (rw q at (r .1 .1 .1 .1 .1 .1 .1 .0)));
+        unbroken = rw q at (r .1 .1 .1 .1 .1 .1 .1 .1 .0);
       })
 
   -- It answers the bytes that its block holds.

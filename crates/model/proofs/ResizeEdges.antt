@@ -31,12 +31,12 @@ was x (suc k) = suc x ∷ was (suc x) k
 abbrev zeros : ℕ → List ℕ
 zeros k = replicate k 0
 
--- A heap: its granules, its table's rows, the granule quota of owner 1 (owner 2 has 5, the others 0), the block quotas of owners 1 and 2, its live blocks and its peak.
+-- A heap without guards: its granules, its table's rows, the granule quota of owner 1 (owner 2 has 5, the others 0), the block quotas of owners 1 and 2, its live blocks and its peak.
 pub data Heap : Type 0 where
   heap : (granules rows quota : ℕ) (blockQuotas : List ℕ) (blocks : List Segment) (peak : ℕ) → Heap
 
 abbrev config : Heap → Config
-config (heap g t q ks bs p) = record { granules = g; base = 0; capacity = t; granuleQuotas = q ∷ 5 ∷ replicate 6 0; blockQuotas = ks ++ replicate 6 0 }
+config (heap g t q ks bs p) = record { granules = g; base = 0; guards = 0; capacity = t; granuleQuotas = q ∷ 5 ∷ replicate 6 0; blockQuotas = ks ++ replicate 6 0 }
 
 abbrev state : Heap → State
 state (heap g t q ks bs p) = record { blocks = bs; peak = p }

@@ -1,4 +1,4 @@
--- Document 01's "Rules of lending", with document 02's base address and resize, but for the arena's bytes: what a size needs, the set of live blocks, first fit by address, which block is at a byte or has a granule, which block a resize leaves, used, free and peak; and what an owner has of them.
+-- Document 01's "Rules of lending", with document 02's base address, guards and resize, but for the arena's bytes: what a size needs, the set of live blocks, first fit by address, which block is at a byte or has a granule, which block a resize leaves, used, free and peak; and what an owner has of them.
 -- Assumes nothing.
 use Prim.Native.Nat.{ℕ, _+_, _-_, _*_, _/_, _%_, max}
 use mathlib.Core.Bool.{Bool, not}
@@ -9,13 +9,13 @@ use Rattle.model.specs.Choose.{choose, both, either, every, only, firstO
 use Rattle.model.specs.Quantities.{Config}
 use Rattle.model.specs.declared.Segment.{Segment}
 
--- A size of n bytes needs n / 16 granules, rounded up.
+-- A size of n bytes fills n / 16 granules, rounded up.
 abbrev pub granulesFor : ℕ → ℕ
 granulesFor n = (n + 15) / 16
 
--- A block of n bytes is as long as n bytes need, whatever its heap was made with.
+-- A block of n bytes needs these and, in a heap with guards, one more: the g of the papers.
 abbrev pub needed : Config → ℕ → ℕ
-needed c n = granulesFor n
+needed c n = granulesFor n + c .guards
 
 -- A heap's state is the set of its live blocks, kept in address order, and its peak in granules.
 pub record State : Type 0 where
@@ -111,6 +111,6 @@ changed h bs = record { blocks = bs; peak = max (h .peak) (granulesOf bs) }
 abbrev pub ownedBy : ℕ → List Segment → List Segment
 ownedBy o bs = only (λ (b : Segment). eqb (b .owner) o) bs
 
--- A block counts the granules of its bytes requested against its owner's granule quota; in a valid heap these are its length.
+-- A block counts the granules of its bytes requested, its guard with them, against its owner's granule quota; in a valid heap these are its length.
 abbrev pub charge : Config → Segment → ℕ
 charge c b = needed c (b .requested)

@@ -8,7 +8,7 @@ use lib.Dec.{eqb}
 use Rattle.model.specs.Choose.{choose, given}
 use Rattle.model.specs.Quantities.{Config}
 use Rattle.model.specs.Allocation.{State, fit, without, refit}
-use Rattle.model.specs.Reasons.{Reason, invalidHeap, badOwner, zeroSize, badAlignment, blockQuotaReached, granuleQuotaExceeded, noPlace, tableFull, pastEnd, notAligned, freeMemory, insideBlock, otherOwner, otherArena, badArena, badBase, badTable, badQuota}
+use Rattle.model.specs.Reasons.{Reason, invalidHeap, badOwner, zeroSize, badAlignment, blockQuotaReached, granuleQuotaExceeded, noPlace, tableFull, pastEnd, notAligned, freeMemory, insideBlock, otherOwner, brokenGuard, otherArena, otherGuardedArena, badArena, badBase, badTable, badQuota}
 use Rattle.model.specs.declared.Plan.{Plan}
 use Rattle.model.specs.declared.Refusal.{Refusal}
 use Rattle.model.specs.declared.InitRefusal.{InitRefusal}
@@ -32,10 +32,11 @@ newLengthOrder c h o x n =
 
 -- A call on a heap is told whether the record and the table are a valid heap, what that was made with, and its state.
 module _ (isValid : Bool) (c : Config) (h : State) where
-  -- For an allocation: 1, 2, 3, 4, 5, 6, 7, 8.
-  unfoldable pub allocOrder : ℕ → ℕ → ℕ → Order Refusal
-  allocOrder o n a =
+  -- For an allocation: 1, 11 in a heap with guards, 2, 3, 4, 5, 6, 7, 8.
+  unfoldable pub allocOrder : List ℕ → ℕ → ℕ → ℕ → Order Refusal
+  allocOrder arena o n a =
       invalidHeap isValid
+      ∷ otherGuardedArena c arena
       ∷ badOwner o
       ∷ zeroSize n
       ∷ badAlignment a
@@ -45,12 +46,12 @@ module _ (isValid : Bool) (c : Config) (h : State) where
       ∷ tableFull c (h .blocks) (fit c (h .blocks) o n a)
       ∷ []
 
-  -- For a free: 1, 11, 2, then those of the offset: 15, 16, 17, 9, 10.
+  -- For a free: 1, 11, 2, then those of the offset: 15, 16, 17, 9, 10; then 19.
   unfoldable pub freeOrder : List ℕ → ℕ → ℕ → Order Refusal
   freeOrder arena o x =
-      invalidHeap isValid ∷ otherArena c arena ∷ badOwner o ∷ offsetOrder c h o x
+      invalidHeap isValid ∷ otherArena c arena ∷ badOwner o ∷ offsetOrder c h o x ++ brokenGuard c (h .blocks) arena x ∷ []
 
-  -- For a resize, as for a free: 1, 11, 2, 15, 16, 17, 9, 10; then, unless the size is 0, 6, 7, 8.
+  -- For a resize, as for a free: 1, 11, 2, 15, 16, 17, 9, 10, 19; then, unless the size is 0, 6, 7, 8.
   unfoldable pub reallocOrder : List ℕ → ℕ → ℕ → ℕ → Order Refusal
   reallocOrder arena o x n =
       freeOrder arena o x ++ choose (eqb n 0) [] (newLengthOrder c h o x n)
@@ -81,9 +82,13 @@ firstReason (r ∷ rs) = choose (r .0) (some (r .1)) (firstReason rs)
 abbrev pub unless : {R A : Type 0} → Order R → A → (R → A) → A
 unless order a refused = given (firstReason order) a refused
 
--- Of document 01's "proper" this is the part about numbers: none of 2, 3, 4 applies. (No allocation's order has 11 yet.)
-abbrev pub properOrder : ℕ → ℕ → ℕ → Order Refusal
-properOrder o n a = badOwner o ∷ zeroSize n ∷ badAlignment a ∷ []
+-- 2, 3 and 4 are asked of an allocation's numbers alone.
+abbrev pub requestOrder : ℕ → ℕ → ℕ → Order Refusal
+requestOrder o n a = badOwner o ∷ zeroSize n ∷ badAlignment a ∷ []
+
+-- Of document 01's "proper" this is the part about what an allocation is handed beside the record and the table: none of 11, 2, 3, 4 applies.
+abbrev pub properOrder : Config → List ℕ → ℕ → ℕ → ℕ → Order Refusal
+properOrder c arena o n a = otherGuardedArena c arena ∷ requestOrder o n a
 
 -- A proper allocation is document 01's "within limits" if neither of 5, 6 applies.
 abbrev pub quotaOrder : Config → State → ℕ → ℕ → Order Refusal
@@ -98,6 +103,6 @@ abbrev pub replaceOrder : Config → State → ℕ → ℕ → ℕ → Order Ref
 replaceOrder c h o x n =
     noPlace (refit c (h .blocks) o x n) ∷ tableFull c (without x (h .blocks)) (refit c (h .blocks) o x n) ∷ []
 
--- 2, 15, 16, 17, 9 and 10 are the last of a free's order and of a block size's: what is asked of an owner and an offset.
+-- 2, 15, 16, 17, 9 and 10 are the last of a block size's order, and of a free's but for 19: what is asked of an owner and an offset.
 abbrev pub blockOrder : Config → State → ℕ → ℕ → Order Refusal
 blockOrder c h o x = badOwner o ∷ offsetOrder c h o x

@@ -1,4 +1,4 @@
--- Document 01's "Numbers that say no", 1 to 13, and document 02's 15 to 18: when each applies. (14 is the script program's.)
+-- Document 01's "Numbers that say no", 1 to 13, and document 02's 15 to 19: when each applies. (14 is the script program's.)
 -- Assumes nothing.
 use Prim.Native.Nat.{ℕ, _+_, _*_, _/_, _%_}
 use mathlib.Core.Bool.{Bool, false, not}
@@ -6,10 +6,10 @@ use mathlib.Core.List.{List}
 use mathlib.Core.Option.{Option}
 use lib.Dec.{leb, ltb, eqb}
 use lib.ListN.{length}
-use Rattle.model.specs.Choose.{total, given, isNone}
+use Rattle.model.specs.Choose.{both, total, given, isNone}
 use Rattle.model.specs.Quantities.{isArena, isBase, isTable, isOwner, quotasInRange, isAlignment, Config, quota}
 use Rattle.model.specs.Allocation.{needed, charge, put, blockAt, blockOver, ownedBy}
-use Rattle.model.specs.Arena.{hasRecordedLength}
+use Rattle.model.specs.Arena.{hasRecordedLength, isBroken}
 use Rattle.model.specs.SegmentMap.{rowsOf}
 use Rattle.model.specs.declared.Segment.{Segment}
 use Rattle.model.specs.declared.Plan.{Plan}
@@ -74,9 +74,17 @@ insideBlock bs x = (given (blockOver (x / 16) bs) false (λ b. ltb (b .start) (x
 abbrev pub otherOwner : List Segment → ℕ → ℕ → Reason Refusal
 otherOwner bs o x = (given (blockAt x bs) false (λ b. not (eqb (b .owner) o)), refusal.OtherOwner)
 
--- 11 of a call on a heap: the arena's length is not the one recorded.
+-- 19: it is the first byte of a live block, but a byte of the block's guard differs from 0x77.
+abbrev pub brokenGuard : Config → List Segment → List ℕ → ℕ → Reason Refusal
+brokenGuard c bs arena x = (given (blockAt x bs) false (isBroken c arena), refusal.BrokenGuard)
+
+-- 11 of a free and of a resize: the arena's length is not the one recorded.
 abbrev pub otherArena : Config → List ℕ → Reason Refusal
 otherArena c arena = (not (hasRecordedLength c arena), refusal.ArenaLength)
+
+-- 11 of an allocation: the same, but only in a heap with guards.
+abbrev pub otherGuardedArena : Config → List ℕ → Reason Refusal
+otherGuardedArena c arena = (both (ltb 0 (c .guards)) (not (hasRecordedLength c arena)), refusal.ArenaLength)
 
 -- 11 of a making: the arena's length is not allowed.
 abbrev pub badArena : List ℕ → Reason InitRefusal

@@ -4,10 +4,10 @@ use Prim.Native.Nat.{ℕ, _*_, _/_}
 use mathlib.Core.Bool.{Bool}
 use mathlib.Core.List.{List}
 use lib.ListN.{length, replicate}
-use Rattle.model.specs.Choose.{given}
+use Rattle.model.specs.Choose.{choose, given}
 use Rattle.model.specs.Quantities.{Config}
 use Rattle.model.specs.Allocation.{State, fit, put, offset, blockAt, without, resize, bytes, ownedBy, granulesOf, freeGranules, changed}
-use Rattle.model.specs.Arena.{zeroed, moved}
+use Rattle.model.specs.Arena.{zeroed, moved, withGuard, withoutGuard}
 use Rattle.model.specs.SegmentMap.{longestFree}
 use Rattle.model.specs.Orders.{unless, allocOrder, freeOrder, reallocOrder, initOrder, blockSizeOrder, totalsOrder, holdingOrder}
 use Rattle.model.specs.declared.Plan.{Plan}
@@ -32,12 +32,13 @@ module _ (arena words : List ℕ) (p : Plan) where
   abbrev pub init : Made
   init = unless (initOrder arena words p) made.Done made.Refused
 
-  -- The heap is made with the arena's granules, the plan's base, the table's rows and the plan's quotas.
+  -- The heap is made with the arena's granules, the plan's base, guards if the plan says so, the table's rows and the plan's quotas.
   abbrev pub initConfig : Config
   initConfig =
       record {
         granules = length arena / 16;
         base = p .base;
+        guards = choose (p .guarded) 1 0;
         capacity = length words / 4;
         granuleQuotas = p .«granule_quotas»;
         blockQuotas = p .«block_quotas»;
@@ -66,6 +67,10 @@ offsetFor c h o n a = given (fit c (h .blocks) o n a) 0 offset
 -- The block at x holds so many bytes, 0 if there is none.
 abbrev pub bytesAt : State → ℕ → ℕ
 bytesAt h x = given (blockAt x (h .blocks)) 0 bytes
+
+-- The arena with the guard of the block at x zeroed; as it is if there is none.
+abbrev pub withoutGuardAt : Config → State → ℕ → List ℕ → List ℕ
+withoutGuardAt c h x arena = given (blockAt x (h .blocks)) arena (λ b. withoutGuard c b arena)
 
 -- A free's answer, as a resize's.
 abbrev pub asResize : Freed → Resized
@@ -107,16 +112,21 @@ ownedBytes h o = 16 * granulesOf (ownedBy o (h .blocks))
 -- Every other call is told whether the record and the table are a valid heap, what that was made with, and its state.
 module _ (isValid : Bool) (c : Config) (h : State) where
   -- An allocation of n bytes on a boundary of a bytes answers the byte offset of its block.
-  abbrev pub alloc : ℕ → ℕ → ℕ → Placed
-  alloc o n a = unless (allocOrder isValid c h o n a) (placed.At (offsetFor c h o n a)) placed.Refused
+  abbrev pub alloc : List ℕ → ℕ → ℕ → ℕ → Placed
+  alloc arena o n a = unless (allocOrder isValid c h arena o n a) (placed.At (offsetFor c h o n a)) placed.Refused
 
   -- Its block is live then, unless it is refused.
-  abbrev pub afterAlloc : ℕ → ℕ → ℕ → State
-  afterAlloc o n a = unless (allocOrder isValid c h o n a) (placing c h o n a) (λ r. h)
+  abbrev pub afterAlloc : List ℕ → ℕ → ℕ → ℕ → State
+  afterAlloc arena o n a = unless (allocOrder isValid c h arena o n a) (placing c h o n a) (λ r. h)
 
   -- It is granted the granules of its block; refused, none.
-  abbrev pub grantedAlloc : ℕ → ℕ → ℕ → ℕ
-  grantedAlloc o n a = unless (allocOrder isValid c h o n a) (given (fit c (h .blocks) o n a) 0 (λ b. b .length)) (λ r. 0)
+  abbrev pub grantedAlloc : List ℕ → ℕ → ℕ → ℕ → ℕ
+  grantedAlloc arena o n a = unless (allocOrder isValid c h arena o n a) (given (fit c (h .blocks) o n a) 0 (λ b. b .length)) (λ r. 0)
+
+  -- Its block's guard is filled then, unless it is refused, and every other byte of the arena stays; in a heap without guards all do.
+  abbrev pub arenaAfterAlloc : List ℕ → ℕ → ℕ → ℕ → List ℕ
+  arenaAfterAlloc arena o n a =
+      unless (allocOrder isValid c h arena o n a) (given (fit c (h .blocks) o n a) arena (λ b. withGuard c b arena)) (λ r. arena)
 
   -- A free answers the bytes that its block holds.
   abbrev pub free : List ℕ → ℕ → ℕ → Freed
@@ -154,11 +164,11 @@ module _ (isValid : Bool) (c : Config) (h : State) where
   abbrev pub returnedRealloc : List ℕ → ℕ → ℕ → ℕ → ℕ
   returnedRealloc arena o x n = unless (reallocOrder isValid c h arena o x n) (given (blockAt x (h .blocks)) 0 (λ b. b .length)) (λ r. 0)
 
-  -- The bytes of the block at x, as many as the block that is left has room for, stand from that block's start on, the rest of the old place is zero (all of it, if no block is left), and every other byte stays; refused, all do.
+  -- The guard of the block at x is zeroed; then its bytes, as many as the block that is left has room for, stand from that block's start on, and the rest of the old place is zero; then the guard of the block that is left is filled, and every other byte stays. If no block is left, all bytes of the old place are zero; refused, all bytes stay.
   abbrev pub arenaAfterRealloc : List ℕ → ℕ → ℕ → ℕ → List ℕ
   arenaAfterRealloc arena o x n =
       unless (reallocOrder isValid c h arena o x n)
-      (given (resize c (h .blocks) o x n) (zeroed x (bytesAt h x) arena) (λ b. moved x (bytesAt h x) (offset b) (bytes b) arena))
+      (given (resize c (h .blocks) o x n) (zeroed x (bytesAt h x) arena) (λ b. withGuard c b (moved x (bytesAt h x) (offset b) (bytes b) (withoutGuardAt c h x arena))))
       (λ r. arena)
 
   -- A block's size is the bytes requested and the bytes held.
