@@ -66,7 +66,7 @@ module _ (c : Config) where
   -- its segments are well formed
   pub live-formed : (b : Segment) → Live c b → wellFormed c b ≡ true
   live-formed b l =
-      rw (le-leb 0 (b .owner) (omega arith), le-leb (b .owner) 8 (l .known), owner-not-0 b l, le-leb (16 * (b .length - 1) + 1) (b .requested) (omega arith), le-leb (b .requested) (16 * b .length) (omega arith))
+      rw (le-leb 0 (b .owner) (omega arith), le-leb (b .owner) 8 (l .known), owner-not-0 b l, le-leb (16 * (b .length - c .guards - 1) + 1) (b .requested) (omega (arith, l .sized)), le-leb (b .requested) (16 * (b .length - c .guards)) (omega (arith, l .sized)))
 
   pub map-formed : (s : ℕ) (bs : List Segment) → Ordered c s bs → every (wellFormed c) (from s bs) ≡ true
   map-formed s [] o = gap-formed c s (c .granules)

@@ -102,14 +102,14 @@ module _ (c : Config) (k : Census) (x : Segment) where
     pub counted-bounded : Bounded (c .granules) (countedOf c k x)
     counted-bounded = by-cases (Bounded (c .granules)) (λ q. b) (λ w. broken-bounded (c .granules) k b) (λ f o. free-bounded f) live-bounded
 
--- An arena of so many granules, apart from all else that a heap is made with.
-abbrev pub ofGranules : ℕ → Config
-ofGranules g = record { granules = g; base = 0; capacity = 0; granuleQuotas = []; blockQuotas = [] }
+-- An arena of so many granules with guards of so many, apart from all else that a heap is made with.
+abbrev pub ofGranules : ℕ → ℕ → Config
+ofGranules g f = record { granules = g; base = 0; guards = f; capacity = 0; granuleQuotas = []; blockQuotas = [] }
 
 -- What is that count, for each such arena, is bounded.
-pub counted-so : (g : ℕ) (k : Census) (x : Segment) → Bounded g k → (r : Census) → ((c : Config) → c .granules ≡ g → r ≡ countedOf c k x)
-    → ((c : Config) → c .granules ≡ g → r ≡ countedOf c k x) × Bounded g r
-counted-so g k x b r e = (e, subst (Bounded g) (sym (e (ofGranules g) refl)) (counted-bounded (ofGranules g) k x b))
+pub counted-so : (g f : ℕ) (k : Census) (x : Segment) → Bounded g k → (r : Census) → ((c : Config) → c .granules ≡ g → c .guards ≡ f → r ≡ countedOf c k x)
+    → ((c : Config) → c .granules ≡ g → c .guards ≡ f → r ≡ countedOf c k x) × Bounded g r
+counted-so g f k x b r e = (e, subst (Bounded g) (sym (e (ofGranules g f) refl refl)) (counted-bounded (ofGranules g f) k x b))
 
 -- Each of so many zeros is 0.
 pub none-held : (i n : ℕ) → _≡_ {A = ℕ} (getD (replicate n 0) i 0) 0

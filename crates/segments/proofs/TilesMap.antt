@@ -35,9 +35,9 @@ pub formed-live : (c : Config) (x : Segment) → eqb (x .owner) 0 ≡ false → 
 formed-live c x q w =
     let k : leb (x .owner) 8 ≡ true = search parts in
     let r : requestedFits c x ≡ true = search parts in
-    let v : within (16 * (x .length - 1) + 1) (16 * x .length) (x .requested) ≡ true = rw q at r in
-    let b : leb (16 * (x .length - 1) + 1) (x .requested) ≡ true = search parts in
-    let t : leb (x .requested) (16 * x .length) ≡ true = search parts in
+    let v : within (16 * (x .length - c .guards - 1) + 1) (16 * (x .length - c .guards)) (x .requested) ≡ true = rw q at r in
+    let b : leb (16 * (x .length - c .guards - 1) + 1) (x .requested) ≡ true = search parts in
+    let t : leb (x .requested) (16 * (x .length - c .guards)) ≡ true = search parts in
     record { owned = omega tests; known = omega tests; requested = omega tests; sized = omega tests }
 
 pub formed-free : (c : Config) (s k : ℕ) (x : Segment) → eqb (x .owner) 0 ≡ true → wellFormed c x ≡ true → x .start ≡ s → x .length ≡ k → freeRun s k ≡ x

@@ -14,10 +14,11 @@ abbrev pub tiles : ℕ → ℕ → List Segment → Bool
 tiles s e [] = eqb s e
 tiles s e (x ∷ xs) = both (eqb (x .start) s) (both (leb 1 (x .length)) (tiles (s + x .length) e xs))
 
--- A free row has requested 0; a live row of length k has requested from 16 (k - 1) + 1 to 16 k bytes.
+-- A free row has requested 0; a live row with k granules before its guard has requested from 16 (k - 1) + 1 to 16 k bytes, which is never 0 (and with none before it no number will do).
 abbrev pub requestedFits : Config → Segment → Bool
 requestedFits c x =
-    choose (isFree x) (eqb (x .requested) 0) (within (16 * (x .length - 1) + 1) (16 * x .length) (x .requested))
+    choose (isFree x) (eqb (x .requested) 0)
+    (within (16 * (x .length - c .guards - 1) + 1) (16 * (x .length - c .guards)) (x .requested))
 
 -- A row is well formed if its owner is 0 to 8 and its bytes requested fit.
 abbrev pub wellFormed : Config → Segment → Bool

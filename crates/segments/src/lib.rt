@@ -17,7 +17,7 @@ ghost use Rattle.segments.specs.Counting.{notCounted, Bounded, Counted};
 ghost use Rattle.segments.specs.Changes.{replaced, inserted, removed, cut, joined, released, Replaceable};
 ghost use Rattle.segments.specs.Steps.{opened, closed, padding, noneCounted, followsOf, countedOf, brokenOf, freeOf, liveOf, runFrom, runTo, runAround};
 use model::Segment;
-use model::granules_for;
+use model::granules_with;
 
 // What first fit found: the row that has room and the start granule, or that no start serves.
 pub enum Fit {
@@ -166,10 +166,10 @@ pub fn first_fit(table: &[u32], rows: usize, base: u32, need: u32, align: u32) -
     }
 }
 
-// The row may follow those counted.
-fn follows(k: Census, s: Segment, granules: u32) -> bool
-    requires { ⌜ k .end ≤ granules ⌝ }
-    ensures { λ r. ⌜ ((c : Config) → c .granules ≡ granules → r ≡ followsOf c k s) ⌝ }
+// The row may follow those counted, in an arena of so many granules, if a guard has `guards` granules.
+fn follows(k: Census, s: Segment, granules: u32, guards: u32) -> bool
+    requires { ⌜ (k .end ≤ granules) × (guards ≤ 1) ⌝ }
+    ensures { λ r. ⌜ ((c : Config) → c .granules ≡ granules → c .guards ≡ guards → r ≡ followsOf c k s) ⌝ }
 {
     if s.start != k.end {
         return false;
@@ -189,7 +189,10 @@ fn follows(k: Census, s: Segment, granules: u32) -> bool
     if 8 < s.owner {
         return false;
     }
-    granules_for(s.requested) == s.length
+    if s.requested < 1 {
+        return false;
+    }
+    granules_with(s.requested, guards) == s.length
 }
 
 // The count before the first row.
@@ -259,14 +262,14 @@ fn larger(a: u32, b: u32) -> u32
 }
 
 // One row more counted.
-fn counted(k: Census, s: Segment, granules: u32) -> Census
-    requires { ⌜ Bounded granules k ⌝ }
-    ensures { λ r. ⌜ ((c : Config) → c .granules ≡ granules → r ≡ countedOf c k s) × Bounded granules r ⌝ }
+fn counted(k: Census, s: Segment, granules: u32, guards: u32) -> Census
+    requires { ⌜ Bounded granules k × (guards ≤ 1) ⌝ }
+    ensures { λ r. ⌜ ((c : Config) → c .granules ≡ granules → c .guards ≡ guards → r ≡ countedOf c k s) × Bounded granules r ⌝ }
 {
     if !k.ok {
         return k;
     }
-    if !follows(k, s, granules) {
+    if !follows(k, s, granules, guards) {
         return broken(k);
     }
     if s.owner == 0 {
@@ -276,15 +279,15 @@ fn counted(k: Census, s: Segment, granules: u32) -> Census
 }
 
 // One pass over the rows: whether they are a map of the arena, and the figures of the live blocks and free runs.
-pub fn take_census(table: &[u32], rows: usize, granules: u32) -> Census
-    requires { do ⌜ 4 * rows ≤ (← ⟦table.len()⟧) ⌝ }
-    ensures { λ r. ⌜ ((c : Config) → c .granules ≡ granules → Counted c rows (now (table .entry)) r) ⌝ }
+pub fn take_census(table: &[u32], rows: usize, granules: u32, guards: u32) -> Census
+    requires { do ⌜ (4 * rows ≤ (← ⟦table.len()⟧)) × (guards ≤ 1) ⌝ }
+    ensures { λ r. ⌜ ((c : Config) → c .granules ≡ granules → c .guards ≡ guards → Counted c rows (now (table .entry)) r) ⌝ }
 {
     let mut k = none_counted();
     let mut i: usize = 0;
     while i < rows {
         let s = row(table, i);
-        k = counted(k, s, granules);
+        k = counted(k, s, granules, guards);
         i += 1;
     }
     if k.end != granules {
@@ -539,6 +542,22 @@ pub fn fill(bytes: &mut [u8], from: usize, count: usize, value: u8)
         bytes[i] = value;
         i += 1;
     }
+}
+
+// The bytes of a run all have one value.
+pub fn is_filled(bytes: &[u8], from: usize, count: usize, value: u8) -> bool
+    requires { do ⌜ from + count ≤ (← ⟦bytes.len()⟧) ⌝ }
+    ensures { λ r. ⌜ r ≡ every (eqb value) (slice from count (now (bytes .entry))) ⌝ }
+{
+    let end = from + count;
+    let mut i = from;
+    while i < end {
+        if bytes[i] != value {
+            return false;
+        }
+        i += 1;
+    }
+    true
 }
 
 // A run of bytes copied to a place that has none of them.

@@ -20,14 +20,14 @@ record Here (c : Config) (k : Census) (s : Segment) : Type 0 where
   so : followsOf c k s ≡ true
   follows : Follows c k s
 
-here : (c : tie.Else2) → (let a = c .before .before .before .before .args in (config : Config) → config .granules ≡ a .granules → Here config (a .k) (a .s))
-here c config e =
+here : (c : tie.Else2) → (let a = c .before .before .before .before .args in (config : Config) → config .granules ≡ a .granules → config .guards ≡ a .guards → Here config (a .k) (a .s))
+here c config e g =
     let a = c .before .before .before .before .args in
-    let q : followsOf config (a .k) (a .s) ≡ true = sym (c .before .follows .ensures config e) ∙ not-false (c .before .follows .result) (c .if2 .left) in
+    let q : followsOf config (a .k) (a .s) ≡ true = sym (c .before .follows .ensures config e g) ∙ not-false (c .before .follows .result) (c .if2 .left) in
     record { ok = not-false (a .k .ok) (c .before .before .if1 .left); so = q; follows = follows-true config (a .k) (a .s) q }
 
 returns : tie.Need-returns
-returns c = counted-so _ _ _ (c .before .before .pre) _ (λ config e. sym (counted-not config _ _ (not-true _ (c .if1 .taken))))
+returns c = counted-so _ _ _ _ (c .before .before .pre .0) _ (λ config e g. sym (counted-not config _ _ (not-true _ (c .if1 .taken))))
 
 follows-requires : tie.Need-follows-requires
 follows-requires c κs = search needs
@@ -37,25 +37,25 @@ broken-requires c κs = search needs
 
 returns-2 : tie.Need-returns-2
 returns-2 c =
-    counted-so _ _ _ (c .before .before .before .before .before .pre) _ (λ config e. c .broken .ensures ∙ sym (counted-broken config _ _
-    (not-false _ (c .before .before .before .if1 .left)) (sym (c .before .before .follows .ensures config e) ∙ not-true _ (c .before .if2 .taken))))
+    counted-so _ _ _ _ (c .before .before .before .before .before .pre .0) _ (λ config e g. c .broken .ensures ∙ sym (counted-broken config _ _
+    (not-false _ (c .before .before .before .if1 .left)) (sym (c .before .before .follows .ensures config e g) ∙ not-true _ (c .before .if2 .taken))))
 
 with-free-requires : tie.Need-with-free-requires
-with-free-requires c κs = let h = here (c .before .before) (ofGranules _) refl in omega arith
+with-free-requires c κs = let h = here (c .before .before) (ofGranules _ _) refl refl in omega arith
 
 returns-3 : tie.Need-returns-3
 returns-3 c =
-    counted-so _ _ _ (c .before .before .before .before .before .before .before .pre) _ (λ config e. let h = here (c .before .before .before) config e in
+    counted-so _ _ _ _ (c .before .before .before .before .before .before .before .pre .0) _ (λ config e g. let h = here (c .before .before .before) config e g in
     c .with-free .ensures ∙ sym (counted-free config _ _ (h .ok) (h .so) (omega arith)))
 
 with-block-requires : tie.Need-with-block-requires
 with-block-requires c κs =
-    let h = here (c .before .before) (ofGranules _) refl in
-    (omega arith, omega arith, omega arith, omega arith, passed-bounded _ _ (c .before .before .before .before .before .before .pre))
+    let h = here (c .before .before) (ofGranules _ _) refl refl in
+    (omega arith, omega arith, omega arith, omega arith, passed-bounded _ _ (c .before .before .before .before .before .before .pre .0))
 
 returns-4 : tie.Need-returns-4
 returns-4 c =
-    counted-so _ _ _ (c .before .before .before .before .before .before .before .pre) _ (λ config e. let h = here (c .before .before .before) config e in
+    counted-so _ _ _ _ (c .before .before .before .before .before .before .before .pre .0) _ (λ config e g. let h = here (c .before .before .before) config e g in
     c .with-block .ensures ∙ sym (counted-live config _ _ (h .ok) (h .so) (λ z. omega arith)))
 
 pub counted-spec : {M : Type 1} → statement M

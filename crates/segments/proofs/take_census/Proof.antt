@@ -25,25 +25,25 @@ one-more c n i ws k r x h e q =
     ∙ ap (λ (y : Census). countAll c y (rest n (i + 1) ws)) (sym q)
 
 abbrev Inv-loop : tie.InvT-loop
-Inv-loop table rows granules k₀ i₀ k i =
+Inv-loop table rows granules guards k₀ i₀ k i =
     (i ≤ rows)
-    × ((c : Config) → c .granules ≡ granules → countAll c noneCounted (segmentsIn rows table) ≡ countAll c k (rest rows i table))
+    × ((c : Config) → c .granules ≡ granules → c .guards ≡ guards → countAll c noneCounted (segmentsIn rows table) ≡ countAll c k (rest rows i table))
     × Bounded granules k
 
 abbrev μ-loop : tie.MeasureT-loop
-μ-loop table rows granules k₀ i₀ k i = rows - i
+μ-loop table rows granules guards k₀ i₀ k i = rows - i
 
 none-counted-requires : tie.Need-none-counted-requires Inv-loop μ-loop
 none-counted-requires c κs = search needs
 
 loop-holds : tie.Need-loop-holds Inv-loop μ-loop
-loop-holds c = (omega arith, λ config e. rw (c .none-counted .ensures), rw (c .none-counted .ensures) (none-bounded _))
+loop-holds c = (omega arith, λ config e g. rw (c .none-counted .ensures), rw (c .none-counted .ensures) (none-bounded _))
 
 row-requires : tie.Need-row-requires Inv-loop μ-loop
 row-requires c κs = omega arith
 
 counted-requires : tie.Need-counted-requires Inv-loop μ-loop
-counted-requires c κs = c .before .before .loop .inv .2
+counted-requires c κs = (c .before .before .loop .inv .2, omega arith)
 
 add-i : tie.Need-add-i Inv-loop μ-loop
 add-i c = omega arith
@@ -56,26 +56,26 @@ loop-again c =
     let a = c .before .before .before .before .before .before .args in
     let l = c .before .before .before .loop in (
       omega arith,
-      λ config e. l .inv .1 config e ∙ one-more config _ _ (a .table .now) _ _ _ (c .before .before .loop-test .taken) (c .before .row .ensures) (c .counted .ensures .0 config e),
+      λ config e g. l .inv .1 config e g ∙ one-more config _ _ (a .table .now) _ _ _ (c .before .before .loop-test .taken) (c .before .row .ensures) (c .counted .ensures .0 config e g),
       c .counted .ensures .1,
     )
 
 -- The count after the last row is the count of them all.
 all-counted : (c : tie.After-loop Inv-loop μ-loop) → (let a = c .before .before .before .before .args in
-    (config : Config) → config .granules ≡ a .granules → countAll config noneCounted (segmentsIn (a .rows) (a .table .now)) ≡ c .before .loop .k)
-all-counted c config e =
+    (config : Config) → config .granules ≡ a .granules → config .guards ≡ a .guards → countAll config noneCounted (segmentsIn (a .rows) (a .table .now)) ≡ c .before .loop .k)
+all-counted c config e g =
     let a = c .before .before .before .before .args in
     let l = c .before .loop in
-    l .inv .1 config e ∙ ap (countAll config (l .k)) (rest-none (a .rows) (l .i) (a .table .now) (c .loop-test .left))
+    l .inv .1 config e g ∙ ap (countAll config (l .k)) (rest-none (a .rows) (l .i) (a .table .now) (c .loop-test .left))
 
 broken-requires : tie.Need-broken-requires Inv-loop μ-loop
 broken-requires c κs = search needs
 
 returns : tie.Need-returns Inv-loop μ-loop
-returns c config e = no-map config _ _ _ (rw e (c .before .before .before .before .loop .inv .2)) (all-counted (c .before .before .before) config e) (λ z. omega arith) _ (c .broken .ensures)
+returns c config e g = no-map config _ _ _ (rw e (c .before .before .before .before .loop .inv .2)) (all-counted (c .before .before .before) config e g) (λ z. omega arith) _ (c .broken .ensures)
 
 returns-2 : tie.Need-returns-2 Inv-loop μ-loop
-returns-2 c config e = whole config _ _ _ (rw e (c .before .before .before .loop .inv .2)) (all-counted (c .before .before) config e) (omega arith)
+returns-2 c config e g = whole config _ _ _ (rw e (c .before .before .before .loop .inv .2)) (all-counted (c .before .before) config e g) (omega arith)
 
 pub take-census-spec : {M : Type 1} → statement M
 take-census-spec =
