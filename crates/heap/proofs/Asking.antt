@@ -11,7 +11,7 @@ use lib.ListN.{length, getD}
 use borrow.Author.Tests.{le-leb, lt-leb, lt-ltb, le-ltb}
 use Rattle.model.specs.Choose.{choose}
 use Rattle.model.specs.Quantities.{isOwner}
-use Rattle.model.specs.Allocation.{granulesFor, granulesOf, ownedBy}
+use Rattle.model.specs.Allocation.{needed, granulesOf, ownedBy}
 use Rattle.model.specs.Orders.{firstReason, quotaOrder, totalsOrder, holdingOrder}
 use Rattle.model.proofs.Choosing.{split, tests}
 use Rattle.model.proofs.Ranges.{within-least, within-most, quota-at}
@@ -118,7 +118,7 @@ module _ (r : Heap) (ws : List ℕ) (k : Census) (e : Examined r ws k) where
         -- 5 and 6 of a request by an owner are told by its quotas and its figures.
         quotas-told : firstReason (quotaOrder (configOf r) (stateIn r ws) o n)
             ≡ choose (leb (getD (r .«block_quotas») (o - 1) 0) (getD (k .blocks) (o - 1) 0)) (some refusal.BlockQuota)
-            (choose (ltb (getD (r .«granule_quotas») (o - 1) 0) (getD (k .held) (o - 1) 0 + granulesFor n)) (some refusal.GranuleQuota) none)
+            (choose (ltb (getD (r .«granule_quotas») (o - 1) 0) (getD (k .held) (o - 1) 0 + needed (configOf r) n)) (some refusal.GranuleQuota) none)
         quotas-told =
             rw (
               quota-at (r .«block_quotas») o (owner-least o w),
@@ -135,11 +135,11 @@ module _ (r : Heap) (ws : List ℕ) (k : Census) (e : Examined r ws k) where
 
         module _ (few : getD (k .blocks) (o - 1) 0 < getD (r .«block_quotas») (o - 1) 0) where
           -- or the granules are too many,
-          pub granules-exceed : getD (r .«granule_quotas») (o - 1) 0 < getD (k .held) (o - 1) 0 + granulesFor n
+          pub granules-exceed : getD (r .«granule_quotas») (o - 1) 0 < getD (k .held) (o - 1) 0 + needed (configOf r) n
               → some refusal.GranuleQuota ≡ firstReason (quotaOrder (configOf r) (stateIn r ws) o n)
           granules-exceed h = sym (rw (quotas-told, lt-leb _ _ few, lt-ltb _ _ h))
 
           -- or it is within limits.
-          pub within-limits : getD (k .held) (o - 1) 0 + granulesFor n ≤ getD (r .«granule_quotas») (o - 1) 0
+          pub within-limits : getD (k .held) (o - 1) 0 + needed (configOf r) n ≤ getD (r .«granule_quotas») (o - 1) 0
               → none ≡ firstReason (quotaOrder (configOf r) (stateIn r ws) o n)
           within-limits h = sym (rw (quotas-told, lt-leb _ _ few, le-ltb _ _ h))

@@ -9,7 +9,7 @@ use lib.Dec.{leb, eqb}
 use lib.ListN.{length}
 use borrow.Author.Tests.{not-false, le-leb}
 use Rattle.model.specs.Quantities.{isBase, Config, inRange}
-use Rattle.model.specs.Allocation.{State, granulesFor}
+use Rattle.model.specs.Allocation.{State, needed}
 use Rattle.model.specs.Orders.{Order, firstReason, unless, allocOrder, freeOrder, reallocOrder}
 use Rattle.model.specs.Rules.{initConfig, bytesAt, placing, releasing, resizing}
 use Rattle.model.proofs.Choosing.{split, splitOption, tests, parts}
@@ -22,7 +22,7 @@ use Rattle.model.proofs.BaseLaws as model
 use Rattle.model.proofs.BaseLaws.{remainder-alike, planAt, with-base-0}
 use Rattle.heap.specs.Stored.{Stored, handed, configOf, stateIn}
 use Rattle.heap.specs.Valid.{valid}
-use Rattle.heap.specs.Calls.{isValid, config, state, afterwards, init, afterInit, arenaAfterInit, allocAligned, afterAllocAligned, free, afterFree, arenaAfterFree, realloc, afterRealloc, arenaAfterRealloc, blockSize, totalsOf, holdingOf}
+use Rattle.heap.specs.Calls.{isValid, config, state, afterwards, init, afterInit, arenaAfterInit, allocAligned, afterAllocAligned, arenaAfterAllocAligned, free, afterFree, arenaAfterFree, realloc, afterRealloc, arenaAfterRealloc, blockSize, totalsOf, holdingOf}
 use Rattle.heap.specs.Promises.{AllocDone, ReallocDone}
 use Rattle.heap.proofs.ValidStored.{valid-range}
 use Rattle.heap.proofs.Making.{none-applies, init-leaves, init-range}
@@ -36,27 +36,28 @@ use Rattle.heap.specs.declared.Allocated.{Allocated}
 use Rattle.heap.specs.declared.Reallocated.{Reallocated}
 
 -- Where the function of an allocation keeps its promise and answers the offset x:
-module _ (r : Heap) (ws : List ℕ) (o n a : ℕ) (out : Allocated) (after : List ℕ) (d : AllocDone r ws o n a out after) (x : ℕ) (e : out .placed ≡ placed.At x) where
+module _ (r : Heap) (ws arena : List ℕ) (o n a : ℕ) (out : Allocated) (wordsAfter arenaAfter : List ℕ) (d : AllocDone r ws arena o n a out wordsAfter arenaAfter)
+    (x : ℕ) (e : out .placed ≡ placed.At x) where
   -- the block's address, the base in the record plus x, is on the boundary asked,
   pub granted-address : (r .base + x) % a ≡ 0
-  granted-address = model.alloc-address (valid r ws) (configOf r) (stateIn r ws) o n a x (sym (d .answer) ∙ e)
+  granted-address = model.alloc-address (valid r ws) (configOf r) (stateIn r ws) arena o n a x (sym (d .answer) ∙ e)
 
-  -- and the block ends at 4,294,967,296 at most, so that the address of each of its bytes fits 32 bits.
-  pub granted-end : r .base + x + 16 * granulesFor n ≤ 4294967296
+  -- and the block, its guard included, ends at 4,294,967,296 at most, so that the address of each of its bytes fits 32 bits.
+  pub granted-end : r .base + x + 16 * needed (configOf r) n ≤ 4294967296
   unfolding allocOrder
   granted-end =
-      let order : Order Refusal = allocOrder (valid r ws) (configOf r) (stateIn r ws) o n a in
+      let order : Order Refusal = allocOrder (valid r ws) (configOf r) (stateIn r ws) arena o n a in
       splitOption (firstReason order)
-      (λ q. let p = allocated (configOf r) (stateIn r ws) (valid r ws) o n a q in
+      (λ q. let p = allocated (configOf r) (stateIn r ws) (valid r ws) arena o n a q in
       let v : valid r ws ≡ true = not-false (valid r ws) (no-reason order q .0) in
       let e′ : placed.At (16 * p .start) ≡ placed.At x = rw (q, p .fits) at (sym (d .answer) ∙ e) in
       let at : 16 * p .start ≡ x = cc in
-      omega (arith, lowest-place (configOf r) (stateIn r ws .blocks) (granulesFor n) a (p .start) (p .lowest) .inside, base-ends (configOf r) (valid-range r ws v)))
+      omega (arith, lowest-place (configOf r) (stateIn r ws .blocks) (needed (configOf r) n) a (p .start) (p .lowest) .inside, base-ends (configOf r) (valid-range r ws v)))
       (λ t q. let e′ : placed.Refused t ≡ placed.At x = rw q at (sym (d .answer) ∙ e) in let z : _≡_ {A = ℕ} 0 1 = cc in absurd (omega arith))
 
--- Where the function of a resize keeps its promise and answers the offset y, the block's address is a multiple of 16, and the block ends at 4,294,967,296 at most.
+-- Where the function of a resize keeps its promise and answers the offset y, the block's address is a multiple of 16, and the block, its guard included, ends at 4,294,967,296 at most.
 pub resized-address : (r : Heap) (ws bytes : List ℕ) (o x n : ℕ) (out : Reallocated) (wordsAfter bytesAfter : List ℕ) → ReallocDone r ws bytes o x n out wordsAfter bytesAfter
-    → (y : ℕ) → out .resized ≡ resized.At y → ((r .base + y) % 16 ≡ 0) × (r .base + y + 16 * granulesFor n ≤ 4294967296)
+    → (y : ℕ) → out .resized ≡ resized.At y → ((r .base + y) % 16 ≡ 0) × (r .base + y + 16 * needed (configOf r) n ≤ 4294967296)
 resized-address r ws bytes o x n out wordsAfter bytesAfter d y e =
     splitOption (firstReason (reallocOrder (valid r ws) (configOf r) (stateIn r ws) bytes o x n))
     (λ q. split (eqb n 0)
@@ -77,6 +78,7 @@ rebased b s =
       rows = s .heap .rows;
       granules = s .heap .granules;
       base = b;
+      guards = s .heap .guards;
       used = s .heap .used;
       peak = s .heap .peak;
       «granule_quotas» = s .heap .«granule_quotas»;
@@ -114,17 +116,21 @@ module _ (s : Stored) (b : ℕ) (k : Alike s b) where
   sixteen = remainder-alike (s .heap .base) b 16 refl (k .remainder)
 
   -- an allocation (one that names no alignment is the one on 16)
-  module _ (o n a : ℕ) where
-    -- answers the same
-    pub alloc-alike : allocAligned s o n a ≡ allocAligned (rebased b s) o n a
-    alloc-alike = rw (← valid-alike) (model.alloc-alike (config s) b (k .remainder) (isValid s) (state s) o n a)
+  module _ (arena : List ℕ) (o n a : ℕ) where
+    -- answers the same,
+    pub alloc-alike : allocAligned s arena o n a ≡ allocAligned (rebased b s) arena o n a
+    alloc-alike = rw (← valid-alike) (model.alloc-alike (config s) b (k .remainder) (isValid s) (state s) arena o n a)
 
-    -- and leaves the same but for the base,
-    pub after-alloc-alike : afterAllocAligned (rebased b s) o n a ≡ rebased b (afterAllocAligned s o n a)
+    -- leaves the same but for the base
+    pub after-alloc-alike : afterAllocAligned (rebased b s) arena o n a ≡ rebased b (afterAllocAligned s arena o n a)
     after-alloc-alike =
-        leaves (λ v c. allocOrder v c (state s) o n a) (λ c. placing c (state s) o n a)
-        (model.order-alike (config s) b (k .remainder) (isValid s) (state s) o n a)
-        (model.after-alloc-alike (config s) b (k .remainder) (isValid s) (state s) o n a)
+        leaves (λ v c. allocOrder v c (state s) arena o n a) (λ c. placing c (state s) o n a)
+        (model.order-alike (config s) b (k .remainder) (isValid s) (state s) arena o n a)
+        (model.after-alloc-alike (config s) b (k .remainder) (isValid s) (state s) arena o n a)
+
+    -- and leaves the same arena,
+    pub arena-alloc-alike : arenaAfterAllocAligned s arena o n a ≡ arenaAfterAllocAligned (rebased b s) arena o n a
+    arena-alloc-alike = rw (← valid-alike) (model.arena-alloc-alike (config s) b (k .remainder) (isValid s) (state s) arena o n a)
 
   -- a free
   module _ (arena : List ℕ) (o x : ℕ) where

@@ -8,7 +8,7 @@ use native.Mathlib.Omega.{arith}
 use lib.ListN.{length}
 use Rattle.model.specs.Allocation.{granulesOf, changed}
 use Rattle.model.specs.SegmentMap.{mapOf, rowsOf}
-use Rattle.model.proofs.Ranges.{base-whole, few-granules, few-rows}
+use Rattle.model.proofs.Ranges.{base-whole, few-guards, few-granules, few-rows}
 use Rattle.segments.specs.Rows.{segmentAt, segmentsIn, tableOf, Rewritten}
 use Rattle.segments.proofs.Reading.{row-end}
 use Rattle.segments.proofs.Rewriting.{rewritten-table}
@@ -23,10 +23,10 @@ use Rattle.heap.specs.declared.Heap.{Heap}
 
 -- A record is updated if its peak is the larger of what it was and what is used.
 pub updated-is : (r : Heap) (rows used peak : ℕ) → peak ≡ max (r .peak) used
-    → record { capacity = r .capacity; rows = rows; granules = r .granules; base = r .base; used = used; peak = peak; «granule_quotas» = r .«granule_quotas»; «block_quotas» = r .«block_quotas» }
+    → record { capacity = r .capacity; rows = rows; granules = r .granules; base = r .base; guards = r .guards; used = used; peak = peak; «granule_quotas» = r .«granule_quotas»; «block_quotas» = r .«block_quotas» }
     ≡ updatedOf r rows used
 updated-is r rows used peak e =
-    λ i. record { capacity = r .capacity; rows = rows; granules = r .granules; base = r .base; used = used; peak = e i; «granule_quotas» = r .«granule_quotas»; «block_quotas» = r .«block_quotas» }
+    λ i. record { capacity = r .capacity; rows = rows; granules = r .granules; base = r .base; guards = r .guards; used = used; peak = e i; «granule_quotas» = r .«granule_quotas»; «block_quotas» = r .«block_quotas» }
 
 module _ (r : Heap) (ws : List ℕ) (v : valid r ws ≡ true) where
   all : Conditions r ws
@@ -40,6 +40,7 @@ module _ (r : Heap) (ws : List ℕ) (v : valid r ws ≡ true) where
     pub capacity : r .capacity ≤ 512
     pub granules : r .granules ≤ 65536
     pub base : r .base % 16 ≡ 0
+    pub guards : r .guards ≤ 1
     pub used : r .used ≤ r .peak
     pub peak : r .peak ≤ r .granules
     pub whole : granulesOf (segmentsIn (r .rows) ws) ≤ 65536
@@ -54,6 +55,7 @@ module _ (r : Heap) (ws : List ℕ) (v : valid r ws ≡ true) where
         capacity = few-rows (configOf r) (all .range);
         granules = few-granules (configOf r) (all .range);
         base = base-whole (configOf r) (all .range);
+        guards = few-guards (configOf r) (all .range);
         used = all .peakLeast;
         peak = all .peakMost;
         whole = omega (arith, map-granules (configOf r) (segmentsIn (r .rows) ws) (valid-map r ws v), few-granules (configOf r) (all .range));
@@ -74,6 +76,7 @@ module _ (r : Heap) (ws : List ℕ) (v : valid r ws ≡ true) where
           rows = rows i;
           granules = r .granules;
           base = r .base;
+          guards = r .guards;
           used = u i;
           peak = max (r .peak) (u i);
           «granule_quotas» = r .«granule_quotas»;

@@ -1,24 +1,26 @@
 -- The row of the block that a call names, and what a free and an enquiry for a size make of it.
 -- Assumes nothing.
 use mathlib.Core.Path.{_≡_, sym, ap, _∙_, subst}
-use mathlib.Core.Bool.{true, false}
-use mathlib.Core.List.{List}
+use mathlib.Core.Bool.{Bool, true, false}
+use mathlib.Core.List.{List, [], _∷_, _++_}
 use mathlib.Core.Option.{none, some}
-use Prim.Native.Nat.{ℕ, _+_, _*_, _-_, _/_, _%_, _≤_, _<_}
+use Prim.Native.Nat.{ℕ, _+_, _*_, _/_, _%_, _≤_, _<_}
 use native.Mathlib.Omega.{arith}
 use lib.Dec.{leb, ltb, eqb}
 use lib.ListN.{length, replicate}
-use borrow.Author.Tests.{not-false, eqb-true, eq-eqb}
+use borrow.Author.Tests.{not-false, eqb-true}
 use Rattle.model.specs.Choose.{choose}
 use Rattle.model.specs.Quantities.{isOwner}
 use Rattle.model.specs.Allocation.{granulesOf, offset, bytes, blockAt, hasGranule, blockOver, without}
-use Rattle.model.specs.Arena.{written}
+use Rattle.model.specs.Arena.{hasRecordedLength, written, guardOffset, guardBytes, isBroken}
 use Rattle.model.specs.SegmentMap.{isFree, isLive, mapOf, rowsOf}
+use Rattle.model.specs.Reasons.{brokenGuard}
 use Rattle.model.specs.Orders.{Order, firstReason, freeOrder, blockSizeOrder, blockOrder}
 use Rattle.model.specs.Rules.{releasing}
 use Rattle.model.proofs.Choosing.{split, tests, first-some, first-picked}
-use Rattle.model.proofs.Offsets.{granule-in, over-at}
-use Rattle.model.proofs.Refusing.{NoReason, no-reason}
+use Rattle.model.proofs.Offsets.{Begins, begins, granule-in, over-at}
+use Rattle.model.proofs.Guards.{guard-inside}
+use Rattle.model.proofs.Refusing.{NoReason, no-reason, first-then, first-stays}
 use Rattle.model.proofs.Released.{Released, released as not-refused}
 use Rattle.model.proofs.Kept.{Kept, keep-others, returned-free}
 use Rattle.model.proofs.Laws.{block-inside}
@@ -69,6 +71,21 @@ module _ {r : Heap} {ws : List ℕ} {x i : ℕ} (b : BlockRow r ws x i) where
 
   pub row-at : offset (segmentAt ws i) ≡ x
   row-at = eqb-true _ x (first-some (λ (b : Segment). eqb (offset b) x) (blocksIn (r .rows) ws) (segmentAt ws i) (b .block))
+
+-- The guard of a block that is read in its row, in a valid heap that is lent the whole arena:
+module _ {r : Heap} {ws : List ℕ} {x i : ℕ} (b : BlockRow r ws x i) (v : valid r ws ≡ true) (arena : List ℕ) (whole : hasRecordedLength (configOf r) arena ≡ true) (s : Segment) (e : s ≡ segmentAt ws i) where
+  at-row : blockAt x (blocksIn (r .rows) ws) ≡ some s
+  at-row = b .block ∙ ap some (sym e)
+
+  -- it lies in the arena,
+  pub guard-lies : guardOffset s + guardBytes (configOf r) ≤ length arena
+  guard-lies =
+      let w : Begins (configOf r) 0 x (blocksIn (r .rows) ws) s = begins (configOf r) 0 x (blocksIn (r .rows) ws) s (valid-kept r ws v .ordered) at-row in
+      omega (arith, guard-inside (configOf r) s (w .live .sized), w .inside, eqb-true (length arena) (16 * r .granules) whole)
+
+  -- and 19 is asked of it.
+  pub guard-asked : (t : Bool) → t ≡ isBroken (configOf r) arena s → firstReason (brokenGuard (configOf r) (blocksIn (r .rows) ws) arena x ∷ []) ≡ choose t (some refusal.BrokenGuard) none
+  guard-asked t q = rw (at-row, q)
 
 module _ (r : Heap) (ws : List ℕ) (o x : ℕ) where
   abbrev blocks : List Segment
@@ -141,9 +158,26 @@ module _ (r : Heap) (ws : List ℕ) (o x : ℕ) where
     abbrev order : Order Refusal
     order = freeOrder (valid r ws) (configOf r) (stateIn r ws) arena o x
 
-    pub free-decided : valid r ws ≡ true → length arena ≡ 16 * r .granules → (l : Lookup) → LookedUp lookOrder r ws x l → LookedUp order r ws x l
-    free-decided v a =
-        decides r ws x lookOrder order (rw v (sym (free-asks (configOf r) (stateIn r ws) arena o x (eq-eqb (length arena) (16 * r .granules) a))))
+    abbrev guardOrder : Order Refusal
+    guardOrder = brokenGuard (configOf r) blocks arena x ∷ []
+
+    -- After 1 and 11 the owner and the offset decide, and then the guard.
+    module _ (v : valid r ws ≡ true) (a : hasRecordedLength (configOf r) arena ≡ true) (l : Lookup) (f : LookedUp lookOrder r ws x l) where
+      asked-then : firstReason order ≡ firstReason (lookOrder ++ guardOrder)
+      asked-then = rw v (free-asks (configOf r) (stateIn r ws) arena o x a)
+
+      pub free-undecided : (why : Refusal) → l ≡ lookup.Refused why → firstReason order ≡ some why
+      free-undecided why q = asked-then ∙ first-stays lookOrder guardOrder why (subst (LookedUp lookOrder r ws x) q f)
+
+      module _ (i : ℕ) (q : l ≡ lookup.Row i) where
+        at : LookedUp lookOrder r ws x (lookup.Row i)
+        at = subst (LookedUp lookOrder r ws x) q f
+
+        pub free-row-of : BlockRow r ws x i
+        free-row-of = at .1
+
+        pub free-decided : (m : Lookup) → LookedUp guardOrder r ws x m → LookedUp order r ws x m
+        free-decided = decides r ws x guardOrder order (sym (asked-then ∙ first-then lookOrder guardOrder (at .0)))
 
     module _ (l : Lookup) (f : LookedUp order r ws x l) where
       pub free-not : (why : Refusal) → l ≡ lookup.Refused why → FreeDone r ws arena o x (record { freed = freed.Refused why; heap = r }) ws arena

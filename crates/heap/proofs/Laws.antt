@@ -22,7 +22,7 @@ use Rattle.model.proofs.Bytes.{zeroed-each}
 use Rattle.model.proofs.Laws.{used-free, block-inside}
 use Rattle.heap.specs.Stored.{Stored}
 use Rattle.heap.specs.Valid.{valid}
-use Rattle.heap.specs.Calls.{isValid, config, state, allocAligned, afterAllocAligned, free, afterFree, arenaAfterFree, blockSize, totalsOf, holdingOf, init, afterInit, arenaAfterInit, zeroHeap}
+use Rattle.heap.specs.Calls.{isValid, config, state, allocAligned, afterAllocAligned, arenaAfterAllocAligned, free, afterFree, arenaAfterFree, blockSize, totalsOf, holdingOf, init, afterInit, arenaAfterInit, zeroHeap}
 use Rattle.heap.proofs.ValidStored.{valid-kept}
 use Rattle.heap.proofs.Making.{none-applies, init-range, fresh-rows, fresh-table, zero-invalid, init-reason}
 use Rattle.model.specs.declared.Plan.{Plan}
@@ -36,10 +36,13 @@ use Rattle.model.specs.declared.BlockSize.the-variants as size
 use Rattle.model.specs.declared.Totals.the-variants as totals
 use Rattle.model.specs.declared.Holding.the-variants as holding
 
--- A refused allocation leaves the record and the table as they were.
-pub alloc-refused : (s : Stored) (o n a : ℕ) (r : Refusal) → allocAligned s o n a ≡ placed.Refused r → afterAllocAligned s o n a ≡ s
-alloc-refused s o n a r e =
-    rw (refused-some (allocOrder (isValid s) (config s) (state s) o n a) _ placed.Refused r (λ z. let w : _≡_ {A = ℕ} 0 1 = cc in omega arith) e .1)
+-- A refused allocation leaves the record and the table as they were, and the arena.
+pub alloc-refused : (s : Stored) (arena : List ℕ) (o n a : ℕ) (r : Refusal) → allocAligned s arena o n a ≡ placed.Refused r
+    → (afterAllocAligned s arena o n a ≡ s) × (arenaAfterAllocAligned s arena o n a ≡ arena)
+alloc-refused s arena o n a r e =
+    let q : (t : Refusal) × (firstReason (allocOrder (isValid s) (config s) (state s) arena o n a) ≡ some t) =
+    refused-some (allocOrder (isValid s) (config s) (state s) arena o n a) _ placed.Refused r (λ z. let w : _≡_ {A = ℕ} 0 1 = cc in omega arith) e in
+    (rw (q .1), rw (q .1))
 
 -- A refused free leaves the record and the table as they were, and the arena.
 pub free-refused : (s : Stored) (arena : List ℕ) (o x : ℕ) (r : Refusal) → free s arena o x ≡ freed.Refused r
@@ -85,9 +88,9 @@ refused-invalid arena words p r e ws = rw (init-refused arena words p r e .0) (z
 
 -- What is not a valid heap gets 1 from every call, and stays as it was.
 module _ (s : Stored) (v : isValid s ≡ false) (arena : List ℕ) (o n a x : ℕ) where
-  pub alloc-invalid : (allocAligned s o n a ≡ placed.Refused refusal.InvalidHeap) × (afterAllocAligned s o n a ≡ s)
+  pub alloc-invalid : (allocAligned s arena o n a ≡ placed.Refused refusal.InvalidHeap) × (afterAllocAligned s arena o n a ≡ s) × (arenaAfterAllocAligned s arena o n a ≡ arena)
   unfolding allocOrder
-  alloc-invalid = (rw v, rw v)
+  alloc-invalid = (rw v, rw v, rw v)
 
   pub free-invalid : (free s arena o x ≡ freed.Refused refusal.InvalidHeap) × (afterFree s arena o x ≡ s) × (arenaAfterFree s arena o x ≡ arena)
   unfolding freeOrder

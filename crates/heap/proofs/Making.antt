@@ -8,7 +8,7 @@ use Prim.Native.Nat.{ℕ, _*_, _/_, _-_, _+_, _≤_}
 use native.Mathlib.Omega.{arith}
 use lib.ListN.{length, replicate, length-replicate, drop-of-length-le}
 use borrow.Author.Tests.{not-false, lt-ltb}
-use Rattle.model.specs.Choose.{given}
+use Rattle.model.specs.Choose.{choose, given}
 use Rattle.model.specs.Quantities.{isArena, isBase, isTable, quotasInRange, Config, inRange}
 use Rattle.model.specs.Allocation.{fresh}
 use Rattle.model.specs.Arena.{written, zeroed}
@@ -67,7 +67,7 @@ module _ (arena words : List ℕ) (p : Plan) (done : init arena words p ≡ made
 
   pub init-range : inRange (initConfig arena words p) ≡ true
   init-range =
-      rw (allowed .3, granules-whole, allowed .0, allowed .1, rows-whole, allowed .2)
+      rw (allowed .3, granules-whole, allowed .0, allowed .1, rows-whole, allowed .2) (split (p .guarded) (λ q. rw q) (λ q. rw q))
 
 module _ (c : Config) (ranged : inRange c ≡ true) where
   -- a heap that nobody has called yet
@@ -117,17 +117,17 @@ module _ (arena words : List ℕ) (p : Plan) (done : init arena words p ≡ made
       let z : length words - 4 ≡ 4 * (length words / 4 - 1) = omega (arith, rows-whole arena words p done) in
       rw z (sym (fresh-table (initConfig arena words p) (init-range arena words p done)))
 
-  pub done-leaves : (bytes table : List ℕ) (v : ℕ) → bytes ≡ written 0 (replicate (length arena) v) arena → v ≡ 0 → table ≡ wordsOf (freeRun 0 (length arena / 16) ∷ []) ++ replicate (length words - 4) 0
+  pub done-leaves : (bytes table : List ℕ) (g v : ℕ) → g ≡ choose (p .guarded) 1 0 → bytes ≡ written 0 (replicate (length arena) v) arena → v ≡ 0 → table ≡ wordsOf (freeRun 0 (length arena / 16) ∷ []) ++ replicate (length words - 4) 0
       → InitDone arena words p (record {
         made = made.Done;
-        heap = record { capacity = length words / 4; rows = 1; granules = length arena / 16; base = p .base; used = 0; peak = 0; «granule_quotas» = p .«granule_quotas»; «block_quotas» = p .«block_quotas» };
+        heap = record { capacity = length words / 4; rows = 1; granules = length arena / 16; base = p .base; guards = g; used = 0; peak = 0; «granule_quotas» = p .«granule_quotas»; «block_quotas» = p .«block_quotas» };
       }) bytes table
-  done-leaves bytes table v b z t =
+  done-leaves bytes table g v f b z t =
       let q : firstReason (initOrder arena words p) ≡ none = none-applies arena words p done in
       record {
         answer = sym done;
         numbered = rw q;
-        heap = rw (q, fresh-rows (initConfig arena words p) (init-range arena words p done));
+        heap = rw (q, f, fresh-rows (initConfig arena words p) (init-range arena words p done));
         table = rw q (t ∙ reset-table);
         arena = rw q (b ∙ ap (λ (v : ℕ). written 0 (replicate (length arena) v) arena) z ∙ zeroed-whole arena);
       }

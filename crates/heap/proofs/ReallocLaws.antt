@@ -8,25 +8,26 @@ use Prim.Native.Nat.{ℕ, _+_, _*_, _/_, _≤_, _<_, min}
 use native.Mathlib.Omega.{arith}
 use lib.Dec.{leb, ltb}
 use lib.ListN.{getD}
-use borrow.Author.Tests.{ne-eqb}
+use borrow.Author.Tests.{ne-eqb, le-leb, lt-ltb}
 use Rattle.model.specs.Choose.{choose, both}
 use Rattle.model.specs.Quantities.{Config, inRange}
-use Rattle.model.specs.Allocation.{State, granulesFor, offset, bytes, block, blockAt, hasGranule, stays, refit, resize}
-use Rattle.model.specs.Arena.{hasRecordedLength, disjoint}
+use Rattle.model.specs.Allocation.{State, granulesFor, needed, offset, bytes, block, blockAt, hasGranule, stays, refit, resize}
+use Rattle.model.specs.Arena.{hasRecordedLength, disjoint, guardOffset, guardBytes, inGuard, isBroken}
 use Rattle.model.specs.SegmentMap.{mapOf}
 use Rattle.model.specs.Orders.{Order, unless, firstReason, freeOrder, reallocOrder, blockSizeOrder}
 use Rattle.model.specs.Rules.{bytesAt, resizing}
 use Rattle.model.specs.Rules as rules
-use Rattle.model.proofs.Choosing.{split, splitOption, one-holds}
+use Rattle.model.proofs.Choosing.{split, splitOption, tests, one-holds}
 use Rattle.model.proofs.Offsets.{Begins, begins}
 use Rattle.model.proofs.Kept.{Kept}
 use Rattle.model.proofs.Released.{Released, released}
-use Rattle.model.proofs.Refitted.{resize-size, resize-length, free-first}
+use Rattle.model.proofs.Refitted.{resize-size, resize-length, resize-requested, free-first}
 use Rattle.model.proofs.Staying.{moves-clear}
 use Rattle.model.proofs.Resizing.{keep-realloc}
 use Rattle.model.proofs.GrowShrink.{back-granted, back-refits, back-same}
 use Rattle.model.proofs.Disjoint.{byte-granule}
-use Rattle.model.proofs.ResizedBytes.{bytes-kept, bytes-elsewhere}
+use Rattle.model.proofs.Guards.{before-guard, bytes-whole}
+use Rattle.model.proofs.ResizedBytes.{bytes-guard, bytes-along, bytes-kept, bytes-elsewhere}
 use Rattle.heap.specs.Stored.{Stored, store}
 use Rattle.heap.specs.Calls.{isValid, config, state, blockSize, realloc, afterRealloc, arenaAfterRealloc}
 use Rattle.segments.specs.Rows.{tableOf}
@@ -65,7 +66,8 @@ module _ (s : Stored) (arena : List ℕ) (o x n : ℕ) where
     new : Segment
     left : resize (config s) (state s .blocks) o x n ≡ some new
     at : offset new ≡ y
-    sized : new .length ≡ granulesFor n
+    sized : new .length ≡ needed (config s) n
+    asks : new .requested ≡ n
     good : isValid s ≡ true
     kept : Kept (config s) (state s)
 
@@ -84,6 +86,7 @@ module _ (s : Stored) (arena : List ℕ) (o x n : ℕ) where
         left = p;
         at = cc;
         sized = resize-length (config s) (state s .blocks) o x n b p;
+        asks = resize-requested (config s) (state s .blocks) o x n b p;
         good = f .valid;
         kept = valid-kept (s .heap) (s .words) (f .valid);
       }))
@@ -116,8 +119,36 @@ module _ (s : Stored) (arena : List ℕ) (o x n : ℕ) where
         ap (λ (k : ℕ). getD (arenaAfterRealloc s arena o x n) (k + i) 0) (sym (a .at))
         ∙ bytes-kept (isValid s) (config s) (state s) (a .kept) arena o x n (a .passed) (a .old) (a .new) (a .was) (a .left) i (omega arith)
 
+    -- where the guard of the block that is left begins
+    begun : (a : Answered y) → guardOffset (a .new) ≡ y + 16 * granulesFor n
+    begun a = omega (arith, a .at, ap granulesFor (a .asks))
+
+    -- All bytes but the guards' go along: those before the new guard come from where the block was, and of the old guard come zeros.
+    pub realloc-along : (i : ℕ) → i < held → i < 16 * granulesFor n
+        → getD (arenaAfterRealloc s arena o x n) (y + i) 0 ≡ choose (leb (16 * granulesFor requested) i) 0 (getD arena (x + i) 0)
+    realloc-along i p q =
+        let a : Answered y = answered y e in
+        let t = told (a .old) (a .was) in
+        let b : Begins (config s) 0 x (state s .blocks) (a .old) = begins (config s) 0 x (state s .blocks) (a .old) (a .kept .ordered) (a .was) in
+        let from : guardOffset (a .old) ≡ x + 16 * granulesFor requested = omega (arith, b .first, ap granulesFor (t .0)) in
+        let in-old : inGuard (config s) (x + i) (a .old) ≡ leb (16 * granulesFor requested) i =
+        split (leb (16 * granulesFor requested) i)
+        (λ l. rw (l, le-leb (guardOffset (a .old)) (x + i) (omega tests), lt-ltb (x + i) (guardOffset (a .old) + guardBytes (config s)) (omega (tests, b .live .sized, t .0, t .1))))
+        (λ l. rw l (before-guard (config s) (a .old) (x + i) (omega tests))) in
+        ap (λ (k : ℕ). getD (arenaAfterRealloc s arena o x n) (k + i) 0) (sym (a .at))
+        ∙ bytes-along (isValid s) (config s) (state s) (a .kept) arena o x n (a .passed) (a .old) (a .new) (a .was) (a .left) i
+        (omega (arith, a .sized, t .1)) (before-guard (config s) (a .new) (offset (a .new) + i) (omega (arith, begun a, a .at)))
+        ∙ ap (λ (b : Bool). choose b 0 (getD arena (x + i) 0)) in-old
+
+    -- The bytes of the new guard, if the heap has guards, are 0x77.
+    pub realloc-guard : (i : ℕ) → y + 16 * granulesFor n ≤ i → i < y + 16 * needed (config s) n → getD (arenaAfterRealloc s arena o x n) i 0 ≡ 0x77
+    realloc-guard i p q =
+        let a : Answered y = answered y e in
+        bytes-guard (isValid s) (config s) (state s) (a .kept) arena o x n (a .passed) (a .old) (a .new) (a .was) (a .left) i
+        (rw (le-leb (guardOffset (a .new)) i (omega (arith, begun a)), lt-ltb i (guardOffset (a .new) + guardBytes (config s)) (omega (arith, begun a))))
+
     -- Outside the block that is left, the old block's bytes are zero, so that nothing of it is readable there, and every other byte is as it was.
-    pub realloc-elsewhere : (i : ℕ) → both (leb y i) (ltb i (y + 16 * granulesFor n)) ≡ false
+    pub realloc-elsewhere : (i : ℕ) → both (leb y i) (ltb i (y + 16 * needed (config s) n)) ≡ false
         → getD (arenaAfterRealloc s arena o x n) i 0 ≡ choose (both (leb x i) (ltb i (x + held))) 0 (getD arena i 0)
     realloc-elsewhere i q =
         let a : Answered y = answered y e in
@@ -128,10 +159,11 @@ module _ (s : Stored) (arena : List ℕ) (o x n : ℕ) where
         bytes-elsewhere (isValid s) (config s) (state s) (a .kept) arena o x n (a .passed) (a .old) (a .new) (a .was) (a .left) i out
         ∙ ap (λ (b : Bool). choose b 0 (getD arena i 0)) (sym (byte-granule i (a .old)) ∙ (λ j. both (leb (first j) i) (ltb i (first j + t .1 j))))
 
-    -- Answered where it was, the block is put back as it was by a resize to the bytes requested before: this is not refused, and every word of the table is as it was before both.
+    -- Answered where it was, the block is put back as it was by a resize to the bytes requested before, if no byte of its guard was changed meanwhile: this is not refused, and every word of the table is as it was before both.
     pub realloc-back : y ≡ x → (bytes : List ℕ) → hasRecordedLength (config s) bytes ≡ true
+        → ((i : ℕ) → x + 16 * granulesFor n ≤ i → i < x + 16 * needed (config s) n → getD bytes i 0 ≡ 0x77)
         → (realloc (afterRealloc s arena o x n) bytes o x requested ≡ answer.At x) × (afterRealloc (afterRealloc s arena o x n) bytes o x requested .words ≡ s .words)
-    realloc-back here content whole =
+    realloc-back here content whole unchanged =
         let a : Answered y = answered y e in
         let c : Config = config s in
         let h : State = state s in
@@ -142,11 +174,13 @@ module _ (s : Stored) (arena : List ℕ) (o x n : ℕ) where
         let h′ : State = resizing c h o x n in
         let is : h′ ≡ rules.afterRealloc (isValid s) c h arena o x n = rw (a .passed) in
         let k : Kept c h′ = subst (Kept c) (sym is) (keep-realloc c h (a .kept) (isValid s) arena o x n) in
-        let fits : granulesFor requested ≡ a .old .length = omega (arith, b .live .sized, t .0) in
+        let fits : needed c requested ≡ a .old .length = omega (arith, b .live .sized, t .0) in
+        let unbroken : isBroken c content (block c o n (x / 16)) ≡ false =
+        bytes-whole c (block c o n (x / 16)) content (λ i low high inside. unchanged i (omega (arith, b .first)) (omega (arith, b .first))) in
         let hm : 1 ≤ requested = omega (arith, b .live .requested, t .0) in
-        let granted = back-granted (isValid s) c h (a .kept) arena o x n hn (a .passed) (a .old) (a .was) st h′ is requested hm fits content whole in
-        let there = back-refits (isValid s) c h (a .kept) arena o x n hn (a .passed) (a .old) (a .was) st h′ is requested hm fits content whole in
-        let same = back-same (isValid s) c h (a .kept) arena o x n hn (a .passed) (a .old) (a .was) st h′ is requested hm fits content whole (sym (t .0)) in
+        let granted = back-granted (isValid s) c h (a .kept) arena o x n hn (a .passed) (a .old) (a .was) st h′ is requested hm fits content whole unbroken in
+        let there = back-refits (isValid s) c h (a .kept) arena o x n hn (a .passed) (a .old) (a .was) st h′ is requested hm fits content whole unbroken in
+        let same = back-same (isValid s) c h (a .kept) arena o x n hn (a .passed) (a .old) (a .was) st h′ is requested hm fits content whole unbroken (sym (t .0)) in
         let blocks : resizing c h′ o x requested .blocks ≡ h .blocks = rw granted at same in
         let left : afterRealloc s arena o x n ≡ store c h′ = rw (a .passed) in
         let ranged : inRange c ≡ true = valid-range (s .heap) (s .words) (a .good) in (

@@ -4,15 +4,15 @@ use mathlib.Core.Path.{_≡_, refl, sym, ap, _∙_, subst}
 use mathlib.Core.Bool.{true}
 use mathlib.Core.List.{List}
 use mathlib.Core.Option.{some}
-use Prim.Native.Nat.{ℕ, _+_, _-_, _*_, _/_, _≤_}
+use Prim.Native.Nat.{ℕ, _+_, _*_, _/_, _≤_}
 use native.Mathlib.Omega.{arith}
 use lib.Dec.{leb, eqb}
 use lib.ListN.{length}
 use borrow.Author.Tests.{eqb-true, eq-eqb, ne-eqb, le-leb}
 use Rattle.model.specs.Choose.{either, both}
 use Rattle.model.specs.Quantities.{Config}
-use Rattle.model.specs.Allocation.{granulesFor, granulesOf, block, insert, blockAt, without, stays, resize, bytes}
-use Rattle.model.specs.Arena.{disjoint, moved}
+use Rattle.model.specs.Allocation.{needed, granulesOf, block, insert, offset, blockAt, without, stays, resize, bytes}
+use Rattle.model.specs.Arena.{disjoint, moved, guardOffset, guardBytes, withGuard, withoutGuard}
 use Rattle.model.specs.SegmentMap.{mapOf, rowsOf}
 use Rattle.model.specs.Orders.{Order, firstReason, reallocOrder}
 use Rattle.model.specs.Rules.{asResize}
@@ -21,6 +21,7 @@ use Rattle.model.proofs.Choosing.{split, both-true}
 use Rattle.model.proofs.Ordered.{total-insert}
 use Rattle.model.proofs.Kept.{Kept}
 use Rattle.model.proofs.Laws.{block-inside}
+use Rattle.model.proofs.Guards.{guard-inside}
 use Rattle.model.proofs.Staying.{moves-longer, moves-clear}
 use Rattle.model.proofs.Refitted.{Accepted, accepted}
 use Rattle.model.proofs.Resizing.{exchanged}
@@ -37,7 +38,7 @@ use Rattle.heap.specs.Steps.{ResizeDecided, updatedOf}
 use Rattle.heap.proofs.Conditions.{valid-conditions}
 use Rattle.heap.proofs.ValidStored.{valid-kept}
 use Rattle.heap.proofs.Changing.{Bounds, bounds, stored-changed}
-use Rattle.heap.proofs.Freeing.{row-words, row-at}
+use Rattle.heap.proofs.Freeing.{row-words, row-at, guard-lies}
 use Rattle.heap.proofs.Refitting.{replaceable, same-blocks}
 use Rattle.model.specs.declared.Segment.{Segment}
 use Rattle.model.specs.declared.Refusal.{Refusal}
@@ -102,13 +103,16 @@ module _ (r : Heap) (ws arena : List ℕ) (o x n : ℕ) (some-size : 1 ≤ n) wh
       pub old-words : 4 * i + 4 ≤ length ws
       old-words = row-words r ws checked i (d .1 .old .inUse)
 
+      pub new-asked : r .guards ≤ 1
+      new-asked = bounded .guards
+
       -- The block in row i is read as old, and the resized one is new.
-      module _ (old new : Segment) (old-is : old ≡ segmentAt ws i) (is : (c : Config) → new ≡ block c o n s) where
+      module _ (old new : Segment) (old-is : old ≡ segmentAt ws i) (is : new ≡ block (configOf r) o n s) where
         was : blockAt x blocks ≡ some old
         was = d .1 .old .block ∙ ap some (sym old-is)
 
-        long : new .length ≡ granulesFor n
-        long = ap (λ (b : Segment). b .length) (is (configOf r))
+        long : new .length ≡ needed (configOf r) n
+        long = ap (λ (b : Segment). b .length) is
 
         may : Replaceable (configOf r) (r .rows) i new ws
         may = replaceable r ws checked o (has .freed .owner) n some-size x i (d .1 .old) s (d .1 .new) new is
@@ -126,21 +130,34 @@ module _ (r : Heap) (ws arena : List ℕ) (o x n : ℕ) (some-size : 1 ≤ n) wh
         pub replace-asked : (c : Config) × Replaceable c (r .rows) i new ws × (4 * rowsOf c (insert new (others (r .rows) i ws)) ≤ length ws)
         replace-asked = (configOf r, may, omega (arith, ap (rowsOf (configOf r)) left-are, rows-few, bounded .words))
 
-        -- Both places are in the arena, so that their bounds fit a word.
+        -- Both places are in the arena, so that their bounds fit a word,
         arena-is : length arena ≡ 16 * r .granules
         arena-is = eqb-true _ _ (has .freed .whole)
 
-        pub old-inside : x + bytes old ≤ length arena
+        first : offset old ≡ x
+        first = ap offset old-is ∙ row-at (d .1 .old)
+
+        old-inside : x + bytes old ≤ length arena
         old-inside = block-inside (configOf r) (stateIn r ws) kept arena x old (has .freed .whole) was
 
         pub new-inside : 16 * s + bytes new ≤ length arena
-        new-inside = omega (arith, arena-is, inside may, ap (λ (b : Segment). b .start) (is (configOf r)))
+        new-inside = omega (arith, arena-is, inside may, ap (λ (b : Segment). b .start) is)
 
         pub arena-most : length arena ≤ 1048576
         arena-most = omega (arith, arena-is, bounded .granules)
 
+        -- and so are both guards.
+        new-guard : guardOffset new + guardBytes (configOf r) ≤ length arena
+        new-guard =
+            omega (
+              arith,
+              new-inside,
+              guard-inside (configOf r) new (long ∙ ap (needed (configOf r)) (sym (ap (λ (b : Segment). b .requested) is))),
+              ap (λ (b : Segment). b .start) is,
+            )
+
         -- The block stays in its place, or goes to one that has no byte of the old and is no shorter.
-        pub apart : either (eqb x (16 * s)) (both (leb (bytes old) (bytes new)) (disjoint x (bytes old) (16 * s) (bytes new))) ≡ true
+        apart : either (eqb x (16 * s)) (both (leb (bytes old) (bytes new)) (disjoint x (bytes old) (16 * s) (bytes new))) ≡ true
         apart =
             split (stays (configOf r) blocks x n)
             (λ t. let e : some (block (configOf r) o n (x / 16)) ≡ some (block (configOf r) o n s) = rw t at (d .1 .new) in
@@ -151,6 +168,23 @@ module _ (r : Heap) (ws arena : List ℕ) (o x n : ℕ) (some-size : 1 ≤ n) wh
             let f = moves-clear (configOf r) blocks (kept .ordered) x old was n o (block (configOf r) o n s) t (d .1 .new) in
             let g = both-true _ _ (le-leb (bytes old) (bytes new) (omega (arith, long))) (subst (λ (k : ℕ). disjoint x (bytes old) (16 * s) (16 * k) ≡ true) (sym long) f) in
             split (eqb x (16 * s)) (λ u. rw u) (λ u. rw u g))
+
+        -- What the arena's part asks for.
+        pub carry-asked : (r .guards ≤ 1)
+            × (1 ≤ r .guards → guardOffset old + guardBytes (configOf r) ≤ length arena)
+            × (1 ≤ r .guards → guardOffset new + guardBytes (configOf r) ≤ length arena)
+            × (offset old + bytes old ≤ length arena)
+            × (offset new + bytes new ≤ length arena)
+            × (either (eqb (offset old) (offset new)) (both (leb (bytes old) (bytes new)) (disjoint (offset old) (bytes old) (offset new) (bytes new))) ≡ true)
+        carry-asked = (
+          new-asked,
+          λ g. guard-lies (d .1 .old) checked arena (has .freed .whole) old old-is,
+          λ g. new-guard,
+          omega (arith, old-inside, first),
+          omega (arith, new-inside, ap (λ (b : Segment). b .start) is),
+          subst (λ (k : ℕ). either (eqb k (offset new)) (both (leb (bytes old) (bytes new)) (disjoint k (bytes old) (offset new) (bytes new))) ≡ true) (sym first)
+              (subst (λ (k : ℕ). either (eqb x k) (both (leb (bytes old) (bytes new)) (disjoint x (bytes old) k (bytes new))) ≡ true) (sym (ap offset is)) apart),
+        )
 
         resize-is : resize (configOf r) blocks o x n ≡ some (block (configOf r) o n s)
         resize-is = rw (ne-eqb n 0 (omega arith)) (d .1 .new)
@@ -175,9 +209,10 @@ module _ (r : Heap) (ws arena : List ℕ) (o x n : ℕ) (some-size : 1 ≤ n) wh
               (omega (arith, used-is)) (w (configOf r) may)
               ∙ rw (d .0, resize-is)
 
-          -- It answers its offset, and leaves the record and the table of the state with the resized block, and its bytes where it is.
+          -- It answers its offset, and leaves the record and the table of the state with the resized block, its bytes where it is, and its guard filled.
           pub realloc-done : (out : Heap) (used : ℕ) → out ≡ updatedOf r m used → used + old .length ≡ new .length + r .used
-              → (y : ℕ) → y ≡ 16 * s → (bytesLeft : List ℕ) → bytesLeft ≡ moved x (bytes old) (16 * s) (bytes new) arena
+              → (y : ℕ) → y ≡ 16 * s → (bytesLeft : List ℕ)
+              → bytesLeft ≡ withGuard (configOf r) new (moved (offset old) (bytes old) (offset new) (bytes new) (withoutGuard (configOf r) old arena))
               → ReallocDone r ws arena o x n (record { resized = answer.At y; heap = out }) after bytesLeft
           realloc-done out used e u y is-offset bytesLeft a =
               record {
@@ -185,5 +220,5 @@ module _ (r : Heap) (ws arena : List ℕ) (o x n : ℕ) (some-size : 1 ≤ n) wh
                 numbered = rw (d .0, resize-is, is-offset);
                 heap = e ∙ ap (λ (w : Stored). w .heap) (left used u);
                 table = ap (λ (w : Stored). w .words) (left used u);
-                arena = rw (d .0, resize-is, was) (a ∙ ap (λ (k : ℕ). moved x (bytes old) (16 * s) (16 * k) arena) long);
+                arena = rw (d .0, resize-is, was) (a ∙ (λ j. withGuard (configOf r) (is j) (moved (first j) (bytes old) (offset (is j)) (bytes (is j)) (withoutGuard (configOf r) old arena))));
               }

@@ -10,30 +10,30 @@ use Rattle.model.specs.Orders.{unless, freeOrder, blockSizeOrder}
 use Rattle.model.specs.Rules.{releasing, bytesAt, requestedAt}
 use Rattle.model.specs.Numbers.{numberOf, Numbered, numberedBy}
 use Rattle.model.proofs.Refinement as model
-use Rattle.model.proofs.Refinement.{freeOrder01, blockSizeOrder01, isOfTheFour, Refines}
+use Rattle.model.proofs.Refinement.{guardedFreeOrder01, blockSizeOrder01, isOfTheFour, Refines}
 use Rattle.heap.specs.Stored.{Stored}
 use Rattle.heap.specs.Calls.{isValid, config, state, afterwards, numberedFree, afterFree, arenaAfterFree, numberedBlockSize}
 use Rattle.heap.proofs.ValidStored.{valid-kept}
 
 module _ (s : Stored) (arena : List ℕ) (o x : ℕ) where
-  -- By document 01 a free answered so, in numbers,
+  -- By document 01's order, with 19 after its last, a free answers so, in numbers,
   abbrev pub numberedFree01 : Numbered
-  numberedFree01 = numberedBy numberOf (freeOrder01 (isValid s) (config s) (state s) arena o x) (bytesAt (state s) x ∷ [])
+  numberedFree01 = numberedBy numberOf (guardedFreeOrder01 (isValid s) (config s) (state s) arena o x) (bytesAt (state s) x ∷ [])
 
-  -- and left the record and the table so,
+  -- and leaves the record and the table so,
   abbrev pub afterFree01 : Stored
-  afterFree01 = afterwards s (freeOrder01 (isValid s) (config s) (state s) arena o x) (releasing (state s) x)
+  afterFree01 = afterwards s (guardedFreeOrder01 (isValid s) (config s) (state s) arena o x) (releasing (state s) x)
 
   -- and the arena so.
   abbrev pub arenaAfterFree01 : List ℕ
-  arenaAfterFree01 = unless (freeOrder01 (isValid s) (config s) (state s) arena o x) (zeroed x (bytesAt (state s) x) arena) (λ r. arena)
+  arenaAfterFree01 = unless (guardedFreeOrder01 (isValid s) (config s) (state s) arena o x) (zeroed x (bytesAt (state s) x) arena) (λ r. arena)
 
   -- By document 01 the enquiry for a block's size answered so.
   abbrev pub numberedBlockSize01 : Numbered
   numberedBlockSize01 =
       numberedBy numberOf (blockSizeOrder01 (isValid s) (config s) (state s) o x) (requestedAt (state s) x ∷ bytesAt (state s) x ∷ [])
 
-  free-orders : Refines (freeOrder01 (isValid s) (config s) (state s) arena o x) (freeOrder (isValid s) (config s) (state s) arena o x)
+  free-orders : Refines (guardedFreeOrder01 (isValid s) (config s) (state s) arena o x) (freeOrder (isValid s) (config s) (state s) arena o x)
   free-orders = model.free-refines (config s) (state s) o x (isValid s) (valid-kept (s .heap) (s .words)) arena
 
   size-orders : Refines (blockSizeOrder01 (isValid s) (config s) (state s) o x) (blockSizeOrder (isValid s) (config s) (state s) o x)

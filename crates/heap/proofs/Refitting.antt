@@ -11,7 +11,7 @@ use lib.ListN.{length, getD}
 use borrow.Author.Tests.{le-leb, le-ltb, lt-ltb}
 use Rattle.model.specs.Choose.{choose, total, given}
 use Rattle.model.specs.Quantities.{isOwner, Config, quota}
-use Rattle.model.specs.Allocation.{granulesFor, charge, room, lowestStart, block, insert, without, stays, refit, ownedBy}
+use Rattle.model.specs.Allocation.{needed, charge, room, lowestStart, block, insert, without, stays, refit, ownedBy}
 use Rattle.model.specs.SegmentMap.{isLive, rowsOf}
 use Rattle.model.specs.Orders.{Order, firstReason, freeOrder, newLengthOrder, reallocOrder, replaceOrder}
 use Rattle.model.proofs.Choosing.{split, both-true}
@@ -64,19 +64,19 @@ module _ (r : Heap) (ws : List ℕ) (v : valid r ws ≡ true) (o : ℕ) (known :
     starts = omega (arith, row-at b)
 
     -- the resized block is at the start that is looked for
-    refit-is : refit (configOf r) blocks o x n ≡ given (refitStart (configOf r) (r .rows) i (granulesFor n) ws) none (λ s. some (block (configOf r) o n s))
+    refit-is : refit (configOf r) blocks o x n ≡ given (refitStart (configOf r) (r .rows) i (needed (configOf r) n) ws) none (λ s. some (block (configOf r) o n s))
     refit-is =
-        let e : refitStart (configOf r) (r .rows) i (granulesFor n) ws ≡ choose (stays (configOf r) blocks x n) (some (x / 16)) (lowestStart (configOf r) blocks (granulesFor n) 16) =
-        λ j. choose (room (configOf r) (others-are j) (granulesFor n) (starts j)) (some (starts j)) (lowestStart (configOf r) blocks (granulesFor n) 16) in
+        let e : refitStart (configOf r) (r .rows) i (needed (configOf r) n) ws ≡ choose (stays (configOf r) blocks x n) (some (x / 16)) (lowestStart (configOf r) blocks (needed (configOf r) n) 16) =
+        λ j. choose (room (configOf r) (others-are j) (needed (configOf r) n) (starts j)) (some (starts j)) (lowestStart (configOf r) blocks (needed (configOf r) n) 16) in
         rw e (split (stays (configOf r) blocks x n) (λ q. rw q) (λ q. rw q))
 
     -- A resized block at its start, read as d: it may take the place of the one in row i.
-    module _ (s : ℕ) (e : refit (configOf r) blocks o x n ≡ some (block (configOf r) o n s)) (d : Segment) (is : (c : Config) → d ≡ block c o n s) where
+    module _ (s : ℕ) (e : refit (configOf r) blocks o x n ≡ some (block (configOf r) o n s)) (d : Segment) (is : d ≡ block (configOf r) o n s) where
       pub replaceable : Replaceable (configOf r) (r .rows) i d ws
       replaceable =
           let at = refitted-at (configOf r) (stateIn r ws) o x n s e in
           let l : Live (configOf r) (block (configOf r) o n s) = record { owned = owner-least o known; known = owner-most o known; requested = some-size; sized = refl } in
-          subst (λ (d : Segment). Replaceable (configOf r) (r .rows) i d ws) (sym (is (configOf r)))
+          subst (λ (d : Segment). Replaceable (configOf r) (r .rows) i d ws) (sym is)
           (record {
             inUse = b .inUse;
             map = valid-map r ws v;
@@ -84,12 +84,12 @@ module _ (r : Heap) (ws : List ℕ) (v : valid r ws ≡ true) (o : ℕ) (known :
             old = row-live b;
             formed = live-formed (configOf r) (block (configOf r) o n s) l;
             live = rw (owner-not-0 (configOf r) (block (configOf r) o n s) l);
-            fits = rw others-are (both-true _ _ (le-leb (s + granulesFor n) (r .granules) (at .0)) (at .1));
+            fits = rw others-are (both-true _ _ (le-leb (s + needed (configOf r) n) (r .granules) (at .0)) (at .1));
             words = omega (arith, bounded .words, bounded .rowsMost);
           })
 
       pub same-blocks : insert d (others (r .rows) i ws) ≡ insert (block (configOf r) o n s) (without x blocks)
-      same-blocks j = insert (is (configOf r) j) (others-are j)
+      same-blocks j = insert (is j) (others-are j)
 
       -- 8, or the place.
       module _ (count : ℕ) (counted : (c : Config) → Replaceable c (r .rows) i d ws → count ≡ rowsOf c (insert d (others (r .rows) i ws))) where
@@ -104,7 +104,7 @@ module _ (r : Heap) (ws : List ℕ) (v : valid r ws ≡ true) (o : ℕ) (known :
             (rw (e, le-ltb (r .capacity) (rowsOf (configOf r) (insert (block (configOf r) o n s) (without x blocks))) (omega (arith, rows-are))), record { old = b; new = e })
 
     -- What the search says.
-    module _ (g : ℕ) (size : g ≡ granulesFor n) (f : Fit)
+    module _ (g : ℕ) (size : g ≡ needed (configOf r) n) (f : Fit)
         (w : (c : Config) → c .base % 16 ≡ 0 → c .granules ≤ 65536 → isMap c (segmentsIn (r .rows) ws) ≡ true → isLive (segmentAt ws i) ≡ true → startOf f ≡ refitStart c (r .rows) i g ws) where
       found-is : refit (configOf r) blocks o x n ≡ given (startOf f) none (λ s. some (block (configOf r) o n s))
       found-is =
@@ -138,8 +138,8 @@ module _ (r : Heap) (ws : List ℕ) (v : valid r ws ≡ true) (o : ℕ) (known :
             granules-counted r ws k e (e .ok ∙ v) o known,
           )
 
-      module _ (held : ℕ) (h : held + segmentAt ws i .length ≡ getD (k .held) (o - 1) 0) (g : ℕ) (size : g ≡ granulesFor n) where
-        six-is : ltb (getD (r .«granule_quotas») (o - 1) 0) (held + g) ≡ ltb (quota (r .«granule_quotas») o) (total (charge (configOf r)) (ownedBy o (without x blocks)) + granulesFor n)
+      module _ (held : ℕ) (h : held + segmentAt ws i .length ≡ getD (k .held) (o - 1) 0) (g : ℕ) (size : g ≡ needed (configOf r) n) where
+        six-is : ltb (getD (r .«granule_quotas») (o - 1) 0) (held + g) ≡ ltb (quota (r .«granule_quotas») o) (total (charge (configOf r)) (ownedBy o (without x blocks)) + needed (configOf r) n)
         six-is =
             let z : held ≡ total (charge (configOf r)) (ownedBy o (without x blocks)) = omega (arith, held-without) in
             λ j. ltb (sym (quota-at (r .«granule_quotas») o (owner-least o known)) j) (z j + size j)

@@ -12,7 +12,7 @@ use Rattle.model.specs.Choose.{both, every, total}
 use Rattle.model.specs.Quantities.{within, isArena, isTable, owners, quota, areQuotas, inRange}
 use Rattle.model.specs.Allocation.{charge, granulesOf, ownedBy}
 use Rattle.model.proofs.Choosing.{split, tests, same-test, parts, clash, both-left, both-right, both-true}
-use Rattle.model.proofs.Ranges.{within-least, within-most, bounds-within, each-owner, all-owners, quota-at}
+use Rattle.model.proofs.Ranges.{within-least, within-most, bounds-within, each-owner, all-owners, quota-at, few-guards}
 use Rattle.segments.specs.Rows.{segmentsIn, blocksIn}
 use Rattle.segments.specs.Tiling.{isMap}
 use Rattle.segments.specs.Counting.{Counted}
@@ -70,11 +70,13 @@ module _ (r : Heap) (ws : List ℕ) where
   not-framed q =
       sym (not-valid r ws (λ a. clash _ (both-true _ _ (a .range) (both-true _ _ (eq-eqb _ _ (a .words)) (bounds-within 1 (r .capacity) (r .rows) (a .rowsLeast) (a .rowsMost)))) q))
 
-  pub framed-rows : framed r ws ≡ true → 4 * r .rows ≤ length ws
+  -- What the pass over the rows asks for.
+  pub framed-rows : framed r ws ≡ true → (4 * r .rows ≤ length ws) × (r .guards ≤ 1)
   framed-rows q =
       let words : eqb (length ws) (4 * r .capacity) ≡ true = search parts in
       let rows : within 1 (r .capacity) (r .rows) ≡ true = search parts in
-      omega (tests, within-most 1 (r .capacity) (r .rows) rows)
+      let range : inRange (configOf r) ≡ true = search parts in
+      (omega (tests, within-most 1 (r .capacity) (r .rows) rows), few-guards (configOf r) range)
 
 -- With the figures counted in the rows in use.
 module _ (r : Heap) (ws : List ℕ) (k : Census) (counted : Counted (configOf r) (r .rows) ws k) where

@@ -25,12 +25,13 @@ pub record InitDone (bytes words : List ℕ) (p : Plan) (out : Initialized) (byt
   pub table : wordsAfter ≡ calls.afterInit bytes words p .words
   pub arena : bytesAfter ≡ calls.arenaAfterInit bytes words p
 
--- An allocation by owner o of n bytes on a boundary of a bytes; one that names no alignment is the one on a boundary of 16.
-pub record AllocDone (r : Heap) (words : List ℕ) (o n a : ℕ) (out : Allocated) (wordsAfter : List ℕ) : Type 0 where
-  pub answer : out .placed ≡ calls.allocAligned (handed r words) o n a
-  pub numbered : numbers.placedNumbered (out .placed) ≡ calls.numberedAlloc (handed r words) o n a
-  pub heap : out .heap ≡ calls.afterAllocAligned (handed r words) o n a .heap
-  pub table : wordsAfter ≡ calls.afterAllocAligned (handed r words) o n a .words
+-- An allocation by owner o of n bytes on a boundary of a bytes, handed the arena's bytes; one that names no alignment is the one on a boundary of 16.
+pub record AllocDone (r : Heap) (words bytes : List ℕ) (o n a : ℕ) (out : Allocated) (wordsAfter bytesAfter : List ℕ) : Type 0 where
+  pub answer : out .placed ≡ calls.allocAligned (handed r words) bytes o n a
+  pub numbered : numbers.placedNumbered (out .placed) ≡ calls.numberedAlloc (handed r words) bytes o n a
+  pub heap : out .heap ≡ calls.afterAllocAligned (handed r words) bytes o n a .heap
+  pub table : wordsAfter ≡ calls.afterAllocAligned (handed r words) bytes o n a .words
+  pub arena : bytesAfter ≡ calls.arenaAfterAllocAligned (handed r words) bytes o n a
 
 -- A free by owner o of the block at x, handed the arena's bytes.
 pub record FreeDone (r : Heap) (words bytes : List ℕ) (o x : ℕ) (out : Released) (wordsAfter bytesAfter : List ℕ) : Type 0 where

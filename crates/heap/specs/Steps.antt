@@ -105,6 +105,7 @@ updatedOf r rows used =
       rows = rows;
       granules = r .granules;
       base = r .base;
+      guards = r .guards;
       used = used;
       peak = max (r .peak) used;
       «granule_quotas» = r .«granule_quotas»;

@@ -17,7 +17,7 @@ pub record Stored : Type 0 where
 abbrev pub handed : Heap → List ℕ → Stored
 handed r ws = record { heap = r; words = ws }
 
--- The record holds the table's rows, the rows in use, the arena's granules and base address, used, peak and the sixteen quotas.
+-- The record holds the table's rows, the rows in use, the arena's granules and base address, a guard's granules, used, peak and the sixteen quotas.
 abbrev pub recordFor : Config → State → Heap
 recordFor c h =
     record {
@@ -25,6 +25,7 @@ recordFor c h =
       rows = rowsOf c (h .blocks);
       granules = c .granules;
       base = c .base;
+      guards = c .guards;
       used = granulesOf (h .blocks);
       peak = h .peak;
       «granule_quotas» = c .granuleQuotas;
@@ -41,7 +42,7 @@ store c h = record { heap = recordFor c h; words = tableFor c h }
 
 -- A record says what its heap was made with.
 abbrev pub configOf : Heap → Config
-configOf r = record { granules = r .granules; base = r .base; capacity = r .capacity; granuleQuotas = r .«granule_quotas»; blockQuotas = r .«block_quotas» }
+configOf r = record { granules = r .granules; base = r .base; guards = r .guards; capacity = r .capacity; granuleQuotas = r .«granule_quotas»; blockQuotas = r .«block_quotas» }
 
 -- The state read in a record and a table is the live blocks in the rows in use, and the peak.
 abbrev pub stateIn : Heap → List ℕ → State

@@ -4,6 +4,7 @@ use mathlib.Core.Path.{sym, ap, _∙_}
 use native.Mathlib.Omega.{arith}
 use borrow.Author.Needs.{needs}
 use Rattle.model.specs.declared.Segment.{Segment}
+use Rattle.heap.proofs.Changing.{bounds}
 use Rattle.heap.proofs.Asking.{owner-least, owner-index}
 use Rattle.heap.proofs.Freeing.{row-words}
 use Rattle.heap.proofs.Refitting.{held-without, resize-exceeds, resize-within}
@@ -32,14 +33,14 @@ sub-others c =
     let s = ap (λ (s : Segment). s .length) (c .before .before .row .ensures) in
     omega (arith, s, held-without _ _ (p .pre .1) (p .args .owner) (p .pre .2) (p .args .size) (p .pre .3) (x .0) _ (x .1) _ (p .pre .0) (p .pre .5))
 
+granules-with-requires : tie.Need-granules-with-requires
+granules-with-requires c κs = let p = c .before .before .before .before in bounds _ _ (p .pre .1) .guards
+
 mul-exceeds : tie.Need-mul-exceeds
 mul-exceeds c = search needs
 
 element-copy-out-exceeds : tie.Need-element-copy-out-exceeds
-element-copy-out-exceeds c = let p = c .before .before .before .before in owner-index (p .args .owner) (p .pre .2)
-
-granules-for-requires : tie.Need-granules-for-requires
-granules-for-requires c κs = search needs
+element-copy-out-exceeds c = let p = c .before .before .before .before .before in owner-index (p .args .owner) (p .pre .2)
 
 exceeds-requires : tie.Need-exceeds-requires
 exceeds-requires c κs = search needs
@@ -48,7 +49,7 @@ returns : tie.Need-returns
 returns c x row =
     let p = c .before .before .before .before .before .before .before .before in
     let s = ap (λ (s : Segment). s .length) (c .before .before .before .before .before .before .row .ensures) in
-    resize-exceeds _ _ (p .pre .1) (p .args .owner) (p .pre .2) (p .args .size) (p .pre .3) x _ row _ (p .pre .0) (p .pre .5) _ (omega (arith, s, held-without _ _ (p .pre .1) (p .args .owner) (p .pre .2) (p .args .size) (p .pre .3) x _ row _ (p .pre .0) (p .pre .5))) _ (c .before .before .granules-for .ensures) (sym (c .before .exceeds .ensures) ∙ c .if1 .taken)
+    resize-exceeds _ _ (p .pre .1) (p .args .owner) (p .pre .2) (p .args .size) (p .pre .3) x _ row _ (p .pre .0) (p .pre .5) _ (omega (arith, s, held-without _ _ (p .pre .1) (p .args .owner) (p .pre .2) (p .args .size) (p .pre .3) x _ row _ (p .pre .0) (p .pre .5))) _ (c .before .before .before .granules-with .ensures) (sym (c .before .exceeds .ensures) ∙ c .if1 .taken)
 
 seek-refit-requires : tie.Need-seek-refit-requires
 seek-refit-requires c κs = search needs
@@ -57,7 +58,7 @@ returns-2 : tie.Need-returns-2
 returns-2 c x row =
     let p = c .before .before .before .before .before .before .before .before .before in
     let s = ap (λ (s : Segment). s .length) (c .before .before .before .before .before .before .before .row .ensures) in
-    resize-within _ _ (p .pre .1) (p .args .owner) (p .pre .2) (p .args .size) (p .pre .3) x _ row _ (p .pre .0) (p .pre .5) _ (omega (arith, s, held-without _ _ (p .pre .1) (p .args .owner) (p .pre .2) (p .args .size) (p .pre .3) x _ row _ (p .pre .0) (p .pre .5))) _ (c .before .before .before .granules-for .ensures) (sym (c .before .before .exceeds .ensures) ∙ c .before .if1 .left) (c .seek-refit .result) (c .seek-refit .ensures x row)
+    resize-within _ _ (p .pre .1) (p .args .owner) (p .pre .2) (p .args .size) (p .pre .3) x _ row _ (p .pre .0) (p .pre .5) _ (omega (arith, s, held-without _ _ (p .pre .1) (p .args .owner) (p .pre .2) (p .args .size) (p .pre .3) x _ row _ (p .pre .0) (p .pre .5))) _ (c .before .before .before .before .granules-with .ensures) (sym (c .before .before .exceeds .ensures) ∙ c .before .if1 .left) (c .seek-refit .result) (c .seek-refit .ensures x row)
 
 pub check-resize-spec : {M : Type 1} → statement M
 check-resize-spec =
@@ -69,9 +70,9 @@ check-resize-spec =
     mul-others
     element-copy-out-others
     sub-others
+    granules-with-requires
     mul-exceeds
     element-copy-out-exceeds
-    granules-for-requires
     exceeds-requires
     returns
     seek-refit-requires

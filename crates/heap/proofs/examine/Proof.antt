@@ -29,7 +29,7 @@ returns-2 : tie.Need-returns-2
 returns-2 c =
     let a = c .before .before .before .before .before .before .before .args in
     let bad = not-true _ (c .if2 .taken) in
-    examined-not _ _ _ bad (no-map (a .heap) (a .table .now) _ (c .before .before .take-census .ensures _ refl) bad)
+    examined-not _ _ _ bad (no-map (a .heap) (a .table .now) _ (c .before .before .take-census .ensures _ refl refl) bad)
 
 agrees-requires : tie.Need-agrees-requires
 agrees-requires c κs = search needs
@@ -37,12 +37,12 @@ agrees-requires c κs = search needs
 returns-3 : tie.Need-returns-3
 returns-3 c =
     let a = c .before .before .before .before .before .before .before .before .before .args in
-    let agree = agrees-valid (a .heap) (a .table .now) _ (c .before .before .before .before .take-census .ensures _ refl) (not-false _ (c .before .before .if2 .left)) (sym (c .before .before .before .before .before .before .before .is-framed .ensures) ∙ not-false _ (c .before .before .before .before .before .before .if1 .left)) in
+    let agree = agrees-valid (a .heap) (a .table .now) _ (c .before .before .before .before .take-census .ensures _ refl refl) (not-false _ (c .before .before .if2 .left)) (sym (c .before .before .before .before .before .before .before .is-framed .ensures) ∙ not-false _ (c .before .before .before .before .before .before .if1 .left)) in
     examined-not _ _ _ refl (sym agree ∙ sym (c .before .agrees .ensures) ∙ not-true _ (c .if3 .taken))
 
 returns-4 : tie.Need-returns-4
 returns-4 c =
-    examined _ _ _ (c .before .before .before .before .take-census .ensures _ refl) (not-false _ (c .before .before .if2 .left)) (sym (c .before .before .before .before .before .before .before .is-framed .ensures) ∙ not-false _ (c .before .before .before .before .before .before .if1 .left))
+    examined _ _ _ (c .before .before .before .before .take-census .ensures _ refl refl) (not-false _ (c .before .before .if2 .left)) (sym (c .before .before .before .before .before .before .before .is-framed .ensures) ∙ not-false _ (c .before .before .before .before .before .before .if1 .left))
     (sym (c .before .agrees .ensures) ∙ not-false _ (c .if3 .left))
 
 pub examine-spec : {M : Type 1} → statement M

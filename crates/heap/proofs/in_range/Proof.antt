@@ -33,8 +33,16 @@ is-within-requires-2 c κs = search needs
 
 returns-4 : tie.Need-returns-4
 returns-4 c =
-    let h = c .before .before .before .before .before .before .before .before .before .args .heap in
-    rw (sym (c .before .before .before .before .before .before .quotas-in-range .ensures) ∙ not-false _ (c .before .before .before .before .before .if1 .left), arena-range (h .granules), sym (c .before .before .before .before .is-within .ensures) ∙ not-false _ (c .before .before .before .if2 .left), sym (c .before .before .is-base .ensures) ∙ not-false _ (c .before .if3 .left), table-range (h .capacity)) (c .is-within2 .ensures)
+    let h = c .before .before .before .before .before .before .before .before .before .before .args .heap in
+    rw (sym (c .before .before .before .before .before .before .before .quotas-in-range .ensures) ∙ not-false _ (c .before .before .before .before .before .before .if1 .left), arena-range (h .granules), sym (c .before .before .before .before .before .is-within .ensures) ∙ not-false _ (c .before .before .before .before .if2 .left), sym (c .before .before .before .is-base .ensures) ∙ not-false _ (c .before .before .if3 .left), sym (c .before .is-within2 .ensures) ∙ not-true _ (c .if4 .taken))
+
+is-within-requires-3 : tie.Need-is-within-requires-3
+is-within-requires-3 c κs = search needs
+
+returns-5 : tie.Need-returns-5
+returns-5 c =
+    let h = c .before .before .before .before .before .before .before .before .before .before .before .args .heap in
+    rw (sym (c .before .before .before .before .before .before .before .before .quotas-in-range .ensures) ∙ not-false _ (c .before .before .before .before .before .before .before .if1 .left), arena-range (h .granules), sym (c .before .before .before .before .before .before .is-within .ensures) ∙ not-false _ (c .before .before .before .before .before .if2 .left), sym (c .before .before .before .before .is-base .ensures) ∙ not-false _ (c .before .before .before .if3 .left), sym (c .before .before .is-within2 .ensures) ∙ not-false _ (c .before .if4 .left), table-range (h .capacity)) (c .is-within3 .ensures)
 
 pub in-range-spec : {M : Type 1} → statement M
 in-range-spec =
@@ -47,4 +55,6 @@ in-range-spec =
     is-base-requires
     returns-3
     is-within-requires-2
-    returns-4)
+    returns-4
+    is-within-requires-3
+    returns-5)

@@ -12,6 +12,9 @@ use Rattle.model.specs.declared.Made.the-variants as made
 use Rattle.heap.proofs.init.Statement.{statement}
 use Rattle.heap.proofs.init.Tie as tie
 
+guard-granules-requires : tie.Need-guard-granules-requires
+guard-granules-requires c κs = search needs
+
 check-init-requires : tie.Need-check-init-requires
 check-init-requires c κs = search needs
 
@@ -23,7 +26,7 @@ init-refused-requires c κs = search needs
 
 returns : tie.Need-returns
 returns c =
-    let a = c .before .before .before .before .before .before .before .before .before .args in
+    let a = c .before .before .before .before .before .before .before .before .before .before .args in
     refused-leaves _ _ _ _ _ (c .init-refused .ensures)
     (init-reason (a .arena .now) (a .table .now) (a .plan) _ (sym (c .before .before .before .before .check-init .ensures (a .arena .now) (a .table .now) refl refl) ∙ c .before .before .made .given .1))
 
@@ -31,13 +34,13 @@ enum-told : tie.Need-enum-told
 enum-told c = search needs
 
 -- No reason applies.
-done : (c : tie.After-enum-told) → (let a = c .before .before .before .before .before .before .before .args in
+done : (c : tie.After-enum-told) → (let a = c .before .before .before .before .before .before .before .before .args in
     rules.init (a .arena .now) (a .table .now) (a .plan) ≡ made.Done)
 done c = sym (c .before .before .check-init .ensures _ _ refl refl) ∙ c .enum-told .given .1
 
 -- What the heap is made with.
 abbrev config : tie.After-enum-told → Config
-config c = let a = c .before .before .before .before .before .before .before .args in rules.initConfig (a .arena .now) (a .table .now) (a .plan)
+config c = let a = c .before .before .before .before .before .before .before .before .args in rules.initConfig (a .arena .now) (a .table .now) (a .plan)
 
 ranged : (c : tie.After-enum-told) → inRange (config c) ≡ true
 ranged c = init-range _ _ _ (done c)
@@ -63,12 +66,13 @@ same-length-2 c = search needs
 returns-2 : tie.Need-returns-2
 returns-2 c =
     let d = c .before .before .before .before .before .before .before .before in
-    done-leaves _ _ _ (done d) _ _ _ (c .before .before .before .before .before .before .fill .ensures) (omega arith) (c .before .before .reset .ensures)
+    done-leaves _ _ _ (done d) _ _ _ _ (d .before .before .before .before .before .guard-granules .ensures) (c .before .before .before .before .before .before .fill .ensures) (omega arith) (c .before .before .reset .ensures)
 
 pub init-spec : {M : Type 1} → statement M
 init-spec =
     tie.close
     (tie.spec
+    guard-granules-requires
     check-init-requires
     enum-known-made
     init-refused-requires

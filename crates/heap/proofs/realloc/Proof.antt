@@ -1,9 +1,11 @@
 -- `heap::realloc` meets its contract: to size 0 it is a free, and else what was decided is carried out in the table and in the arena.
 -- Assumes nothing.
+use mathlib.Core.Path.{refl}
 use Prim.Native.Nat.{_≤_}
 use native.Mathlib.Omega.{arith}
 use borrow.Author.Needs.{needs}
-use Rattle.heap.proofs.Reallocating.{realloc-zero, realloc-not, old-words, replace-asked, old-inside, new-inside, arena-most, apart, used-fits, rows-fit, realloc-done}
+use Rattle.heap.specs.Stored.{configOf}
+use Rattle.heap.proofs.Reallocating.{realloc-zero, realloc-not, old-words, new-asked, replace-asked, carry-asked, new-inside, arena-most, used-fits, rows-fit, realloc-done}
 use Rattle.heap.proofs.realloc.Statement.{statement}
 use Rattle.heap.proofs.realloc.Tie as tie
 
@@ -37,79 +39,66 @@ row-requires : tie.Need-row-requires
 row-requires c κs =
     let w = c .before .before in
     let p = w .before .before .before .before .before .before .before .before in
-    let size : 1 ≤ p .args .size = omega arith in
+    let size : 1 ≤ p .args .size = omega (arith, w .before .before .before .before .before .if1 .left) in
     old-words _ _ _ _ _ _ size _ (w .before .before .find-resize .ensures) _ _ (w .place2 .given .1)
 
 new-block-requires : tie.Need-new-block-requires
-new-block-requires c κs = search needs
+new-block-requires c κs =
+    let w = c .before .before .before in
+    let p = w .before .before .before .before .before .before .before .before in
+    let size : 1 ≤ p .args .size = omega (arith, w .before .before .before .before .before .if1 .left) in
+    new-asked _ _ _ _ _ _ size _ (w .before .before .find-resize .ensures) _ _ (w .place2 .given .1)
 
 cast-replace-row : tie.Need-cast-replace-row
 cast-replace-row c = search needs
 
 replace-row-requires : tie.Need-replace-row-requires
 replace-row-requires c κs =
-    let w = c .before .before .before .before .before .before in
+    let n = c .before .before in
+    let w = n .before .before .before .before in
     let p = w .before .before .before .before .before .before .before .before in
-    let size : 1 ≤ p .args .size = omega arith in
-    replace-asked _ _ _ _ _ _ size _ (w .before .before .find-resize .ensures) _ _ (w .place2 .given .1) _ _ (c .before .before .before .row .ensures) (c .before .before .new-block .ensures)
+    let size : 1 ≤ p .args .size = omega (arith, w .before .before .before .before .before .if1 .left) in
+    replace-asked _ _ _ _ _ _ size _ (w .before .before .find-resize .ensures) _ _ (w .place2 .given .1) _ _ (n .before .row .ensures) (n .new-block .ensures (configOf (p .args .heap)) refl)
 
-mul-held : tie.Need-mul-held
-mul-held c =
-    let w = c .before .before .before .before .before .before .before .before .before .before in
+carry-bytes-requires : tie.Need-carry-bytes-requires
+carry-bytes-requires c κs =
+    let n = c .before .before .before .before .before .before in
+    let w = n .before .before .before .before in
     let p = w .before .before .before .before .before .before .before .before in
-    let size : 1 ≤ p .args .size = omega arith in
-    omega (arith, old-inside _ _ _ _ _ _ size _ (w .before .before .find-resize .ensures) _ _ (w .place2 .given .1) _ _ (c .before .before .before .before .before .before .before .row .ensures) (c .before .before .before .before .before .before .new-block .ensures), arena-most _ _ _ _ _ _ size _ (w .before .before .find-resize .ensures) _ _ (w .place2 .given .1) _ _ (c .before .before .before .before .before .before .before .row .ensures) (c .before .before .before .before .before .before .new-block .ensures))
-
-cast-held : tie.Need-cast-held
-cast-held c = search needs
-
-mul-room : tie.Need-mul-room
-mul-room c =
-    let w = c .before .before .before .before .before .before .before .before .before .before .before in
-    let p = w .before .before .before .before .before .before .before .before in
-    let size : 1 ≤ p .args .size = omega arith in
-    omega (arith, new-inside _ _ _ _ _ _ size _ (w .before .before .find-resize .ensures) _ _ (w .place2 .given .1) _ _ (c .before .before .before .before .before .before .before .before .row .ensures) (c .before .before .before .before .before .before .before .new-block .ensures), arena-most _ _ _ _ _ _ size _ (w .before .before .find-resize .ensures) _ _ (w .place2 .given .1) _ _ (c .before .before .before .before .before .before .before .before .row .ensures) (c .before .before .before .before .before .before .before .new-block .ensures))
-
-cast-room : tie.Need-cast-room
-cast-room c = search needs
-
-mul-to : tie.Need-mul-to
-mul-to c =
-    let w = c .before .before .before .before .before .before .before .before .before .before .before in
-    let p = w .before .before .before .before .before .before .before .before in
-    let size : 1 ≤ p .args .size = omega arith in
-    omega (arith, new-inside _ _ _ _ _ _ size _ (w .before .before .find-resize .ensures) _ _ (w .place2 .given .1) _ _ (c .before .before .before .before .before .before .before .before .row .ensures) (c .before .before .before .before .before .before .before .new-block .ensures), arena-most _ _ _ _ _ _ size _ (w .before .before .find-resize .ensures) _ _ (w .place2 .given .1) _ _ (c .before .before .before .before .before .before .before .before .row .ensures) (c .before .before .before .before .before .before .before .new-block .ensures))
-
-cast-move-bytes : tie.Need-cast-move-bytes
-cast-move-bytes c = search needs
-
-move-bytes-requires : tie.Need-move-bytes-requires
-move-bytes-requires c κs =
-    let w = c .before .before .before .before .before .before .before .before .before .before .before .before in
-    let p = w .before .before .before .before .before .before .before .before in
-    let size : 1 ≤ p .args .size = omega arith in
-    (old-inside _ _ _ _ _ _ size _ (w .before .before .find-resize .ensures) _ _ (w .place2 .given .1) _ _ (c .before .before .before .before .before .before .before .before .before .row .ensures) (c .before .before .before .before .before .before .before .before .new-block .ensures), new-inside _ _ _ _ _ _ size _ (w .before .before .find-resize .ensures) _ _ (w .place2 .given .1) _ _ (c .before .before .before .before .before .before .before .before .before .row .ensures) (c .before .before .before .before .before .before .before .before .new-block .ensures), apart _ _ _ _ _ _ size _ (w .before .before .find-resize .ensures) _ _ (w .place2 .given .1) _ _ (c .before .before .before .before .before .before .before .before .before .row .ensures) (c .before .before .before .before .before .before .before .before .new-block .ensures))
+    let size : 1 ≤ p .args .size = omega (arith, w .before .before .before .before .before .if1 .left) in
+    carry-asked _ _ _ _ _ _ size _ (w .before .before .find-resize .ensures) _ _ (w .place2 .given .1) _ _ (n .before .row .ensures) (n .new-block .ensures (configOf (p .args .heap)) refl)
 
 sub-others : tie.Need-sub-others
 sub-others c =
-    let w = c .before .before .before .before .before .before .before .before .before .before .before .before .before .before .before .before in
+    let n = c .before .before .before .before .before .before .before .before .before .before in
+    let w = n .before .before .before .before in
     let p = w .before .before .before .before .before .before .before .before in
-    let size : 1 ≤ p .args .size = omega arith in
-    used-fits _ _ _ _ _ _ size _ (w .before .before .find-resize .ensures) _ _ (w .place2 .given .1) _ _ (c .before .before .before .before .before .before .before .before .before .before .before .before .before .row .ensures) (c .before .before .before .before .before .before .before .before .before .before .before .before .new-block .ensures) .0
+    let size : 1 ≤ p .args .size = omega (arith, w .before .before .before .before .before .if1 .left) in
+    used-fits _ _ _ _ _ _ size _ (w .before .before .find-resize .ensures) _ _ (w .place2 .given .1) _ _ (n .before .row .ensures) (n .new-block .ensures (configOf (p .args .heap)) refl) .0
 
 add-updated : tie.Need-add-updated
 add-updated c =
-    let w = c .before .before .before .before .before .before .before .before .before .before .before .before .before .before .before .before .before in
+    let n = c .before .before .before .before .before .before .before .before .before .before .before in
+    let w = n .before .before .before .before in
     let p = w .before .before .before .before .before .before .before .before in
-    let size : 1 ≤ p .args .size = omega arith in
-    omega (arith, used-fits _ _ _ _ _ _ size _ (w .before .before .find-resize .ensures) _ _ (w .place2 .given .1) _ _ (c .before .before .before .before .before .before .before .before .before .before .before .before .before .before .row .ensures) (c .before .before .before .before .before .before .before .before .before .before .before .before .before .new-block .ensures))
+    let size : 1 ≤ p .args .size = omega (arith, w .before .before .before .before .before .if1 .left) in
+    omega (arith, used-fits _ _ _ _ _ _ size _ (w .before .before .find-resize .ensures) _ _ (w .place2 .given .1) _ _ (n .before .row .ensures) (n .new-block .ensures (configOf (p .args .heap)) refl))
 
 updated-requires : tie.Need-updated-requires
 updated-requires c κs =
-    let w = c .before .before .before .before .before .before .before .before .before .before .before .before .before .before .before .before .before in
+    let n = c .before .before .before .before .before .before .before .before .before .before .before in
+    let w = n .before .before .before .before in
     let p = w .before .before .before .before .before .before .before .before in
-    let size : 1 ≤ p .args .size = omega arith in
-    rows-fit _ _ _ _ _ _ size _ (w .before .before .find-resize .ensures) _ _ (w .place2 .given .1) _ _ (c .before .before .before .before .before .before .before .before .before .before .before .before .before .before .row .ensures) (c .before .before .before .before .before .before .before .before .before .before .before .before .before .new-block .ensures) _ _ (c .before .before .before .before .before .before .before .before .before .before .replace-row .ensures)
+    let size : 1 ≤ p .args .size = omega (arith, w .before .before .before .before .before .if1 .left) in
+    rows-fit _ _ _ _ _ _ size _ (w .before .before .find-resize .ensures) _ _ (w .place2 .given .1) _ _ (n .before .row .ensures) (n .new-block .ensures (configOf (p .args .heap)) refl) _ _ (c .before .before .before .before .before .before .before .before .replace-row .ensures)
+
+mul-to : tie.Need-mul-to
+mul-to c =
+    let n = c .before .before .before .before .before .before .before .before .before .before .before .before in
+    let w = n .before .before .before .before in
+    let p = w .before .before .before .before .before .before .before .before in
+    let size : 1 ≤ p .args .size = omega (arith, w .before .before .before .before .before .if1 .left) in
+    omega (arith, new-inside _ _ _ _ _ _ size _ (w .before .before .find-resize .ensures) _ _ (w .place2 .given .1) _ _ (n .before .row .ensures) (n .new-block .ensures (configOf (p .args .heap)) refl), arena-most _ _ _ _ _ _ size _ (w .before .before .find-resize .ensures) _ _ (w .place2 .given .1) _ _ (n .before .row .ensures) (n .new-block .ensures (configOf (p .args .heap)) refl))
 
 same-length-3 : tie.Need-same-length-3
 same-length-3 c = search needs
@@ -121,7 +110,7 @@ returns-2 : tie.Need-returns-2
 returns-2 c =
     let w = c .before in
     let p = w .before .before .before .before .before .before .before .before in
-    let size : 1 ≤ p .args .size = omega arith in
+    let size : 1 ≤ p .args .size = omega (arith, w .before .before .before .before .before .if1 .left) in
     realloc-not _ _ _ _ _ _ size _ (w .before .before .find-resize .ensures) _ (w .place .given .1)
 
 same-length-5 : tie.Need-same-length-5
@@ -132,10 +121,12 @@ same-length-6 c = search needs
 
 returns-3 : tie.Need-returns-3
 returns-3 c =
-    let w = c .before .before .before .before .before .before .before .before .before .before .before .before .before .before .before .before .before .before in
+    let n = c .before .before .before .before .before .before .before .before .before .before .before .before in
+    let w = n .before .before .before .before in
     let p = w .before .before .before .before .before .before .before .before in
-    let size : 1 ≤ p .args .size = omega arith in
-    realloc-done _ _ _ _ _ _ size _ (w .before .before .find-resize .ensures) _ _ (w .place2 .given .1) _ _ (c .before .before .before .before .before .before .before .before .before .before .before .before .before .before .before .row .ensures) (c .before .before .before .before .before .before .before .before .before .before .before .before .before .before .new-block .ensures) _ _ (c .before .before .before .before .before .before .before .before .before .before .before .replace-row .ensures) _ _ (c .updated .ensures) (omega (arith, used-fits _ _ _ _ _ _ size _ (w .before .before .find-resize .ensures) _ _ (w .place2 .given .1) _ _ (c .before .before .before .before .before .before .before .before .before .before .before .before .before .before .before .row .ensures) (c .before .before .before .before .before .before .before .before .before .before .before .before .before .before .new-block .ensures))) _ (omega arith) _ (c .before .before .before .before .before .move-bytes .ensures)
+    let size : 1 ≤ p .args .size = omega (arith, w .before .before .before .before .before .if1 .left) in
+    let u = used-fits _ _ _ _ _ _ size _ (w .before .before .find-resize .ensures) _ _ (w .place2 .given .1) _ _ (n .before .row .ensures) (n .new-block .ensures (configOf (p .args .heap)) refl) in
+    realloc-done _ _ _ _ _ _ size _ (w .before .before .find-resize .ensures) _ _ (w .place2 .given .1) _ _ (n .before .row .ensures) (n .new-block .ensures (configOf (p .args .heap)) refl) _ _ (c .before .before .before .before .before .before .before .before .before .replace-row .ensures) _ _ (c .updated .ensures) (omega (arith, u)) _ (omega arith) _ (c .before .before .before .before .before .carry-bytes .ensures)
 
 pub realloc-spec : {M : Type 1} → statement M
 realloc-spec =
@@ -153,16 +144,11 @@ realloc-spec =
     new-block-requires
     cast-replace-row
     replace-row-requires
-    mul-held
-    cast-held
-    mul-room
-    cast-room
-    mul-to
-    cast-move-bytes
-    move-bytes-requires
+    carry-bytes-requires
     sub-others
     add-updated
     updated-requires
+    mul-to
     same-length-3
     same-length-4
     returns-2
