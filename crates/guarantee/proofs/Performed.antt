@@ -14,8 +14,8 @@ use Rattle.guarantee.proofs.Guarantee.{guarantee}
 
 -- One call: the promise is what `execute` says.
 pub promised : (s : Stored) (k : Call) (r : Answer k) (t : Stored) → Promised s k r t → (r ≡ execute s k .0) × (t ≡ execute s k .1)
-promised s (alloc o n) r t d = (d .answer, λ i. record { heap = d .heap i; words = d .table i })
-promised s (alloc-aligned o n a) r t d = (d .answer, λ i. record { heap = d .heap i; words = d .table i })
+promised s (alloc arena o n) r t d = (d .1 .answer, λ i. record { heap = d .1 .heap i; words = d .1 .table i })
+promised s (alloc-aligned arena o n a) r t d = (d .1 .answer, λ i. record { heap = d .1 .heap i; words = d .1 .table i })
 promised s (free arena o x) r t d = (d .1 .answer, λ i. record { heap = d .1 .heap i; words = d .1 .table i })
 promised s (realloc arena o x n) r t d = (d .1 .answer, λ i. record { heap = d .1 .heap i; words = d .1 .table i })
 promised s (block-size o x) r t d = (d .0 .answer, d .1)
@@ -44,7 +44,7 @@ performed-guaranteed arena words p out arenaLeft wordsLeft d done es t run =
       answers = is .0 ∙ ap (λ (u : Stored). history execute u (callsOf es)) made ∙ g .answers;
       stored = left ∙ g .stored;
       guaranteed = g;
-      served = λ o n a e r u k.
-          let s : Served c (stateAfter c (callsOf es)) n a (allocAligned (storedAfter (afterInit arena words p) (callsOf es)) o n a) = g .served o n a e in
-          (s .0, s .1, k .answer ∙ ap (λ (w : Stored). allocAligned w o n a) left ∙ s .2);
+      served = λ bytes o n a e r u k.
+          let s : Served c (stateAfter c (callsOf es)) n a (allocAligned (storedAfter (afterInit arena words p) (callsOf es)) bytes o n a) = g .served bytes o n a e in
+          (s .0, s .1, k .1 .answer ∙ ap (λ (w : Stored). allocAligned w bytes o n a) left ∙ s .2);
     }

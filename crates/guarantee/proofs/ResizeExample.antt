@@ -38,7 +38,7 @@ lines s h (k ∷ ks) =
 
 -- Two owners are lent a granule each, at 0 and 16.
 abbrev lent : List Call
-lent = alloc 1 16 ∷ alloc 2 16 ∷ []
+lent = alloc arena 1 16 ∷ alloc arena 2 16 ∷ []
 
 -- Owner 1 lengthens its block to 3 granules, which move to 32; shortens it to 2; lengthens it to 3 again, in its place; is refused 6, which exceed its quota; and owner 2 resizes its own to size 0.
 abbrev resizes : List Call

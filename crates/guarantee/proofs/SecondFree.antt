@@ -24,7 +24,7 @@ use Rattle.model.proofs.Released.{Released, answered}
 use Rattle.model.proofs.Refitted.{free-refuses, Accepted, accepted}
 use Rattle.model.proofs.ZeroSize.{zero-order, zero-answer}
 use Rattle.model.proofs.Kept.{Kept}
-use Rattle.model.proofs.Asked.{free-asks, size-asks, free-memory}
+use Rattle.model.proofs.Asked.{block-refuses, size-asks, free-memory}
 use Rattle.heap.specs.Stored.{Stored, handed, store}
 use Rattle.heap.specs.Valid.{valid}
 use Rattle.heap.specs.Promises.{InitDone}
@@ -64,8 +64,8 @@ module _ (c : Config) (i : ℕ) where
 
   -- A call with its answer is lent granule i; only allocations and resizes are lent any.
   abbrev pub isLent : (k : Call) → Answer k → Bool
-  isLent (alloc o n) r = lentBy o n r
-  isLent (alloc-aligned o n a) r = lentBy o n r
+  isLent (alloc arena o n) r = lentBy o n r
+  isLent (alloc-aligned arena o n a) r = lentBy o n r
   isLent (return arena o x) r = false
   isLent (resize arena o x n) r = leftBy o n r
   isLent (block-size o x) r = false
@@ -77,11 +77,11 @@ module _ (c : Config) (i : ℕ) where
   nothingLent es = every (λ (e : Entry). not (isLent (e .0) (e .1))) es
 
   -- a call that is not lent a granule that no live block has leaves it so
-  alloc-stays : (h : State) (o n a : ℕ) → lentBy o n (rules.alloc true c h o n a) ≡ false → blockOver i (h .blocks) ≡ none
-      → blockOver i (rules.afterAlloc true c h o n a .blocks) ≡ none
-  alloc-stays h o n a l e =
-      splitOption (firstReason (allocOrder true c h o n a))
-      (λ q. let r : Allocated c h o n a = allocated c h true o n a q in
+  alloc-stays : (h : State) (arena : List ℕ) (o n a : ℕ) → lentBy o n (rules.alloc true c h arena o n a) ≡ false → blockOver i (h .blocks) ≡ none
+      → blockOver i (rules.afterAlloc true c h arena o n a .blocks) ≡ none
+  alloc-stays h arena o n a l e =
+      splitOption (firstReason (allocOrder true c h arena o n a))
+      (λ q. let r : Allocated c h o n a = allocated c h true arena o n a q in
       let z : (16 * r .start) / 16 ≡ r .start = omega arith in
       rw (q, r .fits) (over-insert i (block c o n (r .start)) (h .blocks) (rw (q, r .fits, z) at l) e))
       (λ r q. rw q e)
@@ -98,8 +98,8 @@ module _ (c : Config) (i : ℕ) where
       rw (q, z, r .place .fits) (over-insert i (block c o n (r .place .start)) (without x (h .blocks)) (rw (q, z, r .place .fits, w) at l) e))
 
   stays : (h : State) (k : Call) → isLent k (byRules c h k .0) ≡ false → blockOver i (h .blocks) ≡ none → blockOver i (byRules c h k .1 .blocks) ≡ none
-  stays h (alloc o n) l e = alloc-stays h o n 16 l e
-  stays h (alloc-aligned o n a) l e = alloc-stays h o n a l e
+  stays h (alloc arena o n) l e = alloc-stays h arena o n 16 l e
+  stays h (alloc-aligned arena o n a) l e = alloc-stays h arena o n a l e
   stays h (return arena o x) l e =
       splitOption (firstReason (freeOrder true c h arena o x)) (λ q. rw q (over-only i _ (h .blocks) e)) (λ r q. rw q e)
   stays h (resize arena o x n) l e =
@@ -135,7 +135,7 @@ module _ (c : Config) (ranged : inRange c ≡ true) (h : State) (k : Kept c h) w
       let gk : Kept c g = kept-after c h ks k in
       let over : blockOver (y / 16) (g .blocks) ≡ none = stays-free c (y / 16) h ks (ap (λ (es : List Entry). nothingLent c (y / 16) es) (sym (history-same c ranged h ks k)) ∙ n) e in
       let why : firstReason (blockOrder c g o y) ≡ some refusal.FreeMemory = free-memory c g o y owner (y / 16) (omega arith) inside over in
-      let f : firstReason (freeOrder true c g arena o y) ≡ some refusal.FreeMemory = free-asks c g arena o y whole ∙ why in
+      let f : firstReason (freeOrder true c g arena o y) ≡ some refusal.FreeMemory = block-refuses c g arena o y whole refusal.FreeMemory why in
       let b : firstReason (blockSizeOrder true c g o y) ≡ some refusal.FreeMemory = size-asks c g o y ∙ why in (
         ap (λ (s : Stored). free s arena o y) (stored-after c ranged h ks k) ∙ answers-same c g gk ranged (return arena o y) ∙ rw f,
         ap (λ (s : Stored). blockSize s o y) (stored-after c ranged h ks k) ∙ answers-same c g gk ranged (block-size o y) ∙ rw b,
@@ -272,14 +272,14 @@ second-free-performed arena words p out arenaLeft wordsLeft d done es s run byte
 
 -- On the heap of P5 to P13 owner 1 is lent 48 bytes at 0, owner 2 16 at 64 and owner 1 32 at 80; owner 1 frees 0.
 abbrev calls : List Call
-calls = alloc 1 40 ∷ alloc-aligned 2 16 32 ∷ alloc 1 17 ∷ []
+calls = alloc arena 1 40 ∷ alloc-aligned arena 2 16 32 ∷ alloc arena 1 17 ∷ []
 
 abbrev onceFreed : Stored
 onceFreed = afterFree (storedAfter small calls) arena 1 0
 
 -- An ask is refused, owner 2 is lent 32 bytes at 0, and there is an enquiry.
 abbrev laterCalls : List Call
-laterCalls = alloc 2 33 ∷ alloc-aligned 2 32 64 ∷ totals ∷ []
+laterCalls = alloc arena 2 33 ∷ alloc-aligned arena 2 32 64 ∷ totals ∷ []
 
 lent-48 : free (storedAfter small calls) arena 1 0 ≡ freed.Bytes 48
 unfolding valid allocOrder freeOrder initOrder

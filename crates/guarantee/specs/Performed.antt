@@ -17,10 +17,10 @@ use Rattle.model.specs.declared.Plan.{Plan}
 use Rattle.model.specs.declared.Made.the-variants as made
 use Rattle.model.specs.declared.Placed.{Placed}
 
--- Handed s, the function of a call answers r and leaves t: its promise. (A free and a resize leave some bytes in the arena too; an enquiry leaves what it found.)
+-- Handed s, the function of a call answers r and leaves t: its promise. (An allocation, a free and a resize leave some bytes in the arena too; an enquiry leaves what it found.)
 abbrev pub Promised : Stored → (k : Call) → Answer k → Stored → Type 0
-Promised s (alloc o n) r t = AllocDone (s .heap) (s .words) o n 16 (record { placed = r; heap = t .heap }) (t .words)
-Promised s (alloc-aligned o n a) r t = AllocDone (s .heap) (s .words) o n a (record { placed = r; heap = t .heap }) (t .words)
+Promised s (alloc arena o n) r t = (left : List ℕ) × AllocDone (s .heap) (s .words) arena o n 16 (record { placed = r; heap = t .heap }) (t .words) left
+Promised s (alloc-aligned arena o n a) r t = (left : List ℕ) × AllocDone (s .heap) (s .words) arena o n a (record { placed = r; heap = t .heap }) (t .words) left
 Promised s (free arena o x) r t = (left : List ℕ) × FreeDone (s .heap) (s .words) arena o x (record { freed = r; heap = t .heap }) (t .words) left
 Promised s (realloc arena o x n) r t = (left : List ℕ) × ReallocDone (s .heap) (s .words) arena o x n (record { resized = r; heap = t .heap }) (t .words) left
 Promised s (block-size o x) r t = BlockSizeDone (s .heap) (s .words) o x r × (t ≡ s)
@@ -50,7 +50,7 @@ pub record GuaranteedOf (c : Config) (s : Stored) (es : List Entry) (t : Stored)
   -- Demand 3's claim holds of the list.
   pub guaranteed : Guaranteed c s (callsOf es)
   -- The next allocation, if it is entitled to its block, gets it: so its function answers, if it keeps its promise.
-  pub served : (o n a : ℕ) → Entitled c (stateAfter c (callsOf es)) o n a → (r : Placed) (u : Stored) → Promised t (alloc-aligned o n a) r u → Served c (stateAfter c (callsOf es)) n a r
+  pub served : (arena : List ℕ) (o n a : ℕ) → Entitled c (stateAfter c (callsOf es)) arena o n a → (r : Placed) (u : Stored) → Promised t (alloc-aligned arena o n a) r u → Served c (stateAfter c (callsOf es)) n a r
 
 -- Demand 3 of the functions: the claim holds of every making that is not refused and of every list after it, as long as each function keeps its promise.
 abbrev pub Demand3Performed : Type 0
