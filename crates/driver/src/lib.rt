@@ -12,26 +12,27 @@ use model::Placed;
 use model::Resized;
 use model::Totals;
 
-// Lends `size` bytes to `owner` on a boundary of 16 bytes, and answers the byte offset.
-pub fn alloc(heap: &mut Heap, table: &mut [u32], owner: u32, size: u32) -> Placed
-    ensures { λ r. ⌜ AllocDone (now (heap .entry)) (now (table .entry)) owner size 16 (record { placed = r; heap = now (heap .exit) }) (now (table .exit)) ⌝ }
+// Lends `size` bytes to `owner` on a boundary of 16 bytes, and answers the byte offset; if the heap has guards, the block's is filled.
+pub fn alloc(heap: &mut Heap, table: &mut [u32], arena: &mut [u8], owner: u32, size: u32) -> Placed
+    ensures { λ r. ⌜ AllocDone (now (heap .entry)) (now (table .entry)) (now (arena .entry)) owner size 16 (record { placed = r; heap = now (heap .exit) }) (now (table .exit)) (now (arena .exit)) ⌝ }
 {
-    let out = heap::alloc(*heap, table, owner, size);
+    let out = heap::alloc(*heap, table, arena, owner, size);
     *heap = out.heap;
     out.placed
 }
 
-// Lends `size` bytes to `owner`, and answers the byte offset: the record's base plus the offset is a multiple of `align`.
+// Lends `size` bytes to `owner`, and answers the byte offset: the record's base plus the offset is a multiple of `align`. Guards are as in `alloc`.
 pub fn alloc_aligned(
     heap: &mut Heap,
     table: &mut [u32],
+    arena: &mut [u8],
     owner: u32,
     size: u32,
     align: u32,
 ) -> Placed
-    ensures { λ r. ⌜ AllocDone (now (heap .entry)) (now (table .entry)) owner size align (record { placed = r; heap = now (heap .exit) }) (now (table .exit)) ⌝ }
+    ensures { λ r. ⌜ AllocDone (now (heap .entry)) (now (table .entry)) (now (arena .entry)) owner size align (record { placed = r; heap = now (heap .exit) }) (now (table .exit)) (now (arena .exit)) ⌝ }
 {
-    let out = heap::alloc_aligned(*heap, table, owner, size, align);
+    let out = heap::alloc_aligned(*heap, table, arena, owner, size, align);
     *heap = out.heap;
     out.placed
 }
@@ -85,11 +86,17 @@ pub fn holding(heap: &Heap, table: &[u32], owner: u32) -> Holding
 // The calls above for a caller that keeps the record itself: each lends its own copy, and a mutating one gives the copy back
 // beside the answer.
 
-pub fn alloc_by_value(heap: Heap, table: &mut [u32], owner: u32, size: u32) -> Allocated
-    ensures { λ r. ⌜ AllocDone heap (now (table .entry)) owner size 16 r (now (table .exit)) ⌝ }
+pub fn alloc_by_value(
+    heap: Heap,
+    table: &mut [u32],
+    arena: &mut [u8],
+    owner: u32,
+    size: u32,
+) -> Allocated
+    ensures { λ r. ⌜ AllocDone heap (now (table .entry)) (now (arena .entry)) owner size 16 r (now (table .exit)) (now (arena .exit)) ⌝ }
 {
     let mut h = heap;
-    let placed = alloc(&mut h, table, owner, size);
+    let placed = alloc(&mut h, table, arena, owner, size);
     Allocated {
         placed: placed,
         heap: h,
@@ -99,14 +106,15 @@ pub fn alloc_by_value(heap: Heap, table: &mut [u32], owner: u32, size: u32) -> A
 pub fn alloc_aligned_by_value(
     heap: Heap,
     table: &mut [u32],
+    arena: &mut [u8],
     owner: u32,
     size: u32,
     align: u32,
 ) -> Allocated
-    ensures { λ r. ⌜ AllocDone heap (now (table .entry)) owner size align r (now (table .exit)) ⌝ }
+    ensures { λ r. ⌜ AllocDone heap (now (table .entry)) (now (arena .entry)) owner size align r (now (table .exit)) (now (arena .exit)) ⌝ }
 {
     let mut h = heap;
-    let placed = alloc_aligned(&mut h, table, owner, size, align);
+    let placed = alloc_aligned(&mut h, table, arena, owner, size, align);
     Allocated {
         placed: placed,
         heap: h,
