@@ -16,8 +16,10 @@ use borrow.Author.Tests.{lt-ltb, le-ltb}
 use Rattle.model.proofs.Ranges.{zero-base}
 use Rattle.model.proofs.Choosing.{split, splitOption, tests, clash}
 use Rattle.model.proofs.Refusing.{no-reason}
+use Rattle.heap.specs.Stored.{Stored}
 use Rattle.heap.specs.Calls.{isValid, config, state}
 use Rattle.heap.specs.Promises.{InitDone, AllocDone, FreeDone}
+use Rattle.heap.specs.declared.Heap.{Heap}
 use Rattle.heap.specs.declared.Initialized.{Initialized}
 use Rattle.heap.specs.declared.Allocated.{Allocated}
 use Rattle.heap.specs.declared.Released.{Released}
@@ -26,7 +28,7 @@ use Rattle.model.specs.declared.Refusal.the-variants as refusal
 use Rattle.model.specs.declared.InitRefusal.{InitRefusal}
 use Rattle.model.specs.declared.Made.the-variants as made
 use Rattle.script.specs.Commands.{answerNumbered}
-use Rattle.script.specs.Machine.{Machine, machine, withHeap, planOf, mostBytes, placedAnswer, freedAnswer, limitOrder, makeOrder, bytes, stored, answerTo, numberedTo, after}
+use Rattle.script.specs.Machine.{Machine, machine, withHeap, planOf, mostBytes, placedAnswer, freedAnswer, limitOrder, makeOrder, words, bytes, stored, leaving, answerTo, numberedTo, after}
 use Rattle.script.specs.Promises.{CommandDone}
 use Rattle.script.specs.Steps.{partOf}
 use Rattle.script.proofs.Lists.{at-most}
@@ -42,7 +44,7 @@ answer-numbered : (m : Machine) (k : Command) → answerNumbered (answerTo m k) 
 answer-numbered m (command.Limit o g b) = splitOption (firstReason (limitOrder o)) (λ q. rw q) (λ r q. rw q)
 answer-numbered m (command.Make b r) = splitOption (firstReason (makeOrder m b r)) (λ q. rw q) (λ t q. rw q)
 answer-numbered m (command.Ask o n a) =
-    splitOption (firstReason (allocOrder (isValid (stored m)) (config (stored m)) (state (stored m)) o n a)) (λ q. rw q) (λ r q. rw q)
+    splitOption (firstReason (allocOrder (isValid (stored m)) (config (stored m)) (state (stored m)) (bytes m) o n a)) (λ q. rw q) (λ r q. rw q)
 answer-numbered m (command.Back o x) =
     splitOption (firstReason (freeOrder (isValid (stored m)) (config (stored m)) (state (stored m)) (bytes m) o x)) (λ q. rw q) (λ r q. rw q)
 answer-numbered m command.Unreadable = refl
@@ -60,26 +62,35 @@ module _ (s : Script) (ws bs : List ℕ) where
       → CommandDone s ws bs (command.Limit o g b) (record { answer = answer.Refused refusal.BadOwner; script = s }) ws bs
   limit-refused o g b e = command-done (rw e) (rw e)
 
-  -- The words that an allocation is lent are the heap's table, and the others stay.
-  pub ask-done : (o n a k : ℕ) → k ≡ min (4 * s .heap .capacity) (length ws) → (out : Allocated) (left : List ℕ) → AllocDone (s .heap) (take k ws) o n a out left
-      → (r : Carried) → r .answer ≡ placedAnswer (out .placed) → r .script ≡ withHeap s (out .heap)
-      → CommandDone s ws bs (command.Ask o n a) r (left ++ drop k ws) bs
-  ask-done o n a k e out left d r is then =
-      let t = at-most (4 * s .heap .capacity) k ws e in
-      let w : AllocDone (s .heap) (take (4 * s .heap .capacity) ws) o n a out left = subst (λ (l : List ℕ). AllocDone (s .heap) l o n a out left) (t .0) d in
-      command-done (is ∙ ap placedAnswer (w .answer)) (rw then (λ i. machine (withHeap s (w .heap i)) (w .table i ++ t .1 i) bs))
+  -- A call is lent the first k words and the first n bytes: the heap's table and arena, or all that there are if these are fewer.
+  module _ (k n : ℕ) (e : k ≡ min (4 * s .heap .capacity) (length ws)) (f : n ≡ min (16 * s .heap .granules) (length bs)) where
+    -- What is promised of what is lent is promised of the heap's table and arena.
+    lent : (Done : List ℕ → List ℕ → Type 0) → Done (take k ws) (take n bs) → Done (words (machine s ws bs)) (bytes (machine s ws bs))
+    lent Done d =
+        subst (λ (l : List ℕ × List ℕ). Done (l .0) (l .1)) (λ i. (at-most (4 * s .heap .capacity) k ws e .0 i, at-most (16 * s .heap .granules) n bs f .0 i)) d
 
-  -- The words and bytes that a free is lent are the heap's, and the others stay.
-  pub back-done : (o x k n : ℕ) → k ≡ min (4 * s .heap .capacity) (length ws) → n ≡ min (16 * s .heap .granules) (length bs)
-      → (out : Released) (words bytes : List ℕ) → FreeDone (s .heap) (take k ws) (take n bs) o x out words bytes
-      → (r : Carried) → r .answer ≡ freedAnswer (out .freed) → r .script ≡ withHeap s (out .heap)
-      → CommandDone s ws bs (command.Back o x) r (words ++ drop k ws) (bytes ++ drop n bs)
-  back-done o x k n e f out words bytes d r is then =
-      let t = at-most (4 * s .heap .capacity) k ws e in
-      let u = at-most (16 * s .heap .granules) n bs f in
-      let w : FreeDone (s .heap) (take (4 * s .heap .capacity) ws) (take (16 * s .heap .granules) bs) o x out words bytes =
-      subst (λ (l : List ℕ × List ℕ). FreeDone (s .heap) (l .0) (l .1) o x out words bytes) (λ i. (t .0 i, u .0 i)) d in
-      command-done (is ∙ ap freedAnswer (w .answer)) (rw then (λ i. machine (withHeap s (w .heap i)) (w .table i ++ t .1 i) (w .arena i ++ u .1 i)))
+    -- With a record, a table and an arena left, the other words and bytes stay.
+    left : (t : Stored) (arena : List ℕ) (out : Heap) (wordsLeft bytesLeft : List ℕ) → out ≡ t .heap → wordsLeft ≡ t .words → bytesLeft ≡ arena
+        → (then : Script) → then ≡ withHeap s out
+        → machine then (wordsLeft ++ drop k ws) (bytesLeft ++ drop n bs) ≡ leaving (machine s ws bs) t (arena ++ drop (16 * s .heap .granules) bs)
+    left t arena out wordsLeft bytesLeft h w b then q =
+        rw q (λ i. machine (withHeap s (h i)) (w i ++ at-most (4 * s .heap .capacity) k ws e .1 i) (b i ++ at-most (16 * s .heap .granules) n bs f .1 i))
+
+    -- So an allocation is carried out,
+    pub ask-done : (o m a : ℕ) (out : Allocated) (wordsLeft bytesLeft : List ℕ) → AllocDone (s .heap) (take k ws) (take n bs) o m a out wordsLeft bytesLeft
+        → (r : Carried) → r .answer ≡ placedAnswer (out .placed) → r .script ≡ withHeap s (out .heap)
+        → CommandDone s ws bs (command.Ask o m a) r (wordsLeft ++ drop k ws) (bytesLeft ++ drop n bs)
+    ask-done o m a out wordsLeft bytesLeft d r is then =
+        let w = lent (λ ws bs. AllocDone (s .heap) ws bs o m a out wordsLeft bytesLeft) d in
+        command-done (is ∙ ap placedAnswer (w .answer)) (left _ _ (out .heap) wordsLeft bytesLeft (w .heap) (w .table) (w .arena) (r .script) then)
+
+    -- and a free.
+    pub back-done : (o x : ℕ) (out : Released) (wordsLeft bytesLeft : List ℕ) → FreeDone (s .heap) (take k ws) (take n bs) o x out wordsLeft bytesLeft
+        → (r : Carried) → r .answer ≡ freedAnswer (out .freed) → r .script ≡ withHeap s (out .heap)
+        → CommandDone s ws bs (command.Back o x) r (wordsLeft ++ drop k ws) (bytesLeft ++ drop n bs)
+    back-done o x out wordsLeft bytesLeft d r is then =
+        let w = lent (λ ws bs. FreeDone (s .heap) ws bs o x out wordsLeft bytesLeft) d in
+        command-done (is ∙ ap freedAnswer (w .answer)) (left _ _ (out .heap) wordsLeft bytesLeft (w .heap) (w .table) (w .arena) (r .script) then)
 
 -- One of two tests holds if the second does.
 pub either-true : (t u : Bool) → u ≡ true → either t u ≡ true

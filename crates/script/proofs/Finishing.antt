@@ -11,7 +11,7 @@ use Rattle.model.proofs.Choosing.{split}
 use lib.ListN.{length, take, length-take}
 use Rattle.script.specs.Text.{unlessEmpty, atFront}
 use Rattle.script.specs.Commands.{readLine}
-use Rattle.script.specs.Machine.{Machine, machine, after, closing}
+use Rattle.script.specs.Machine.{Machine, machine, closing}
 use Rattle.script.specs.Session.{answersTo, afterLines, held}
 use Rattle.script.specs.Promises.{WriteDone, endMost, lastLines, FinishDone}
 use Rattle.script.specs.Steps.{Put, AnswerDone}

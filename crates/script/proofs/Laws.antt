@@ -16,7 +16,7 @@ use Rattle.model.specs.Quantities.{Config, inRange}
 use Rattle.model.specs.Allocation.{State, fresh}
 use Rattle.model.specs.SegmentMap.{mapOf}
 use Rattle.model.specs.Orders.{Order, firstReason, allocOrder, freeOrder, initOrder, totalsOrder}
-use Rattle.model.specs.Rules.{initConfig}
+use Rattle.model.specs.Rules.{initConfig, placing, releasing}
 use Rattle.model.proofs.Choosing.{split, splitOption, clash, tests, every-append, every-weaker, every-head, every-tail}
 use Rattle.model.proofs.Ranges.{within-least, bounds-within}
 use Rattle.model.proofs.Kept.{Kept, keep-alloc, keep-free}
@@ -196,6 +196,12 @@ isOk answer.Unreadable = false
 leaving-same : (m : Machine) (bs : List ℕ) → leaving m (stored m) bs ≡ machine (m .script) (m .table) bs
 leaving-same m bs = ap (λ ws. machine (m .script) ws bs) (take-append-drop (4 * heap m .capacity) (m .table))
 
+-- If it leaves the arena so too, all is as it was.
+all-same : (m : Machine) → leaving m (stored m) (bytes m ++ drop (16 * heap m .granules) (m .arena)) ≡ m
+all-same m =
+    leaving-same m (bytes m ++ drop (16 * heap m .granules) (m .arena))
+    ∙ ap (λ bs. machine (m .script) (m .table) bs) (take-append-drop (16 * heap m .granules) (m .arena))
+
 -- A command that is refused, or cannot be read, leaves all as it was.
 pub refused-stays : (m : Machine) (k : Command) → isOk (answerTo m k) ≡ false → after m k ≡ m
 refused-stays m (command.Limit o g b) e =
@@ -203,15 +209,13 @@ refused-stays m (command.Limit o g b) e =
 refused-stays m (command.Make b r) e =
     splitOption (firstReason (makeOrder m b r)) (λ q. absurd (clash true refl (rw q at e))) (λ r q. rw q)
 refused-stays m (command.Ask o n a) e =
-    splitOption (firstReason (allocOrder (isValid (stored m)) (config (stored m)) (state (stored m)) o n a))
+    splitOption (firstReason (allocOrder (isValid (stored m)) (config (stored m)) (state (stored m)) (bytes m) o n a))
     (λ q. absurd (clash true refl (rw q at e)))
-    (λ r q. rw q (leaving-same m (m .arena)))
+    (λ r q. rw q (all-same m))
 refused-stays m (command.Back o x) e =
     splitOption (firstReason (freeOrder (isValid (stored m)) (config (stored m)) (state (stored m)) (bytes m) o x))
     (λ q. absurd (clash true refl (rw q at e)))
-    (λ r q. rw q
-    (leaving-same m (bytes m ++ drop (16 * heap m .granules) (m .arena))
-    ∙ ap (λ bs. machine (m .script) (m .table) bs) (take-append-drop (16 * heap m .granules) (m .arena))))
+    (λ r q. rw q (all-same m))
 refused-stays m command.Unreadable e = refl
 
 -- A command is a make.
@@ -292,14 +296,38 @@ module _ (m : Machine) where
   step-valid (command.Make b r) =
       splitOption (firstReason (makeOrder m b r)) (λ q. rw q (make-valid b r q ∙ sym (either-true (isValid (stored m)) true refl))) (λ t q. rw q (sym (either-false _ false refl)))
   step-valid (command.Ask o n a) =
-      call-stays (allocOrder (isValid (stored m)) (config (stored m)) (state (stored m)) o n a) _ []
-      (λ v. alloc-invalid (stored m) v [] o n a 0 .1)
-      (λ v q. rw q at (keep-alloc (config (stored m)) (state (stored m)) (valid-kept (heap m) (words m) v) (isValid (stored m)) o n a))
+      call-stays (allocOrder (isValid (stored m)) (config (stored m)) (state (stored m)) (bytes m) o n a) _ []
+      (λ v. alloc-invalid (stored m) v (bytes m) o n a 0 .1)
+      (λ v q. rw q at (keep-alloc (config (stored m)) (state (stored m)) (valid-kept (heap m) (words m) v) (isValid (stored m)) (bytes m) o n a))
   step-valid (command.Back o x) =
       call-stays (freeOrder (isValid (stored m)) (config (stored m)) (state (stored m)) (bytes m) o x) _ []
       (λ v. free-invalid (stored m) v (bytes m) o 0 0 x .1)
       (λ v q. rw q at (keep-free (config (stored m)) (state (stored m)) (valid-kept (heap m) (words m) v) (isValid (stored m)) (bytes m) o x))
   step-valid command.Unreadable = sym (either-false _ false refl)
+
+  -- A call on the heap leaves the guards as they were.
+  call-guards : (order : Order Refusal) (h : State) (bs : List ℕ) → heap (leaving m (afterwards (stored m) order h) bs) .guards ≡ heap m .guards
+  call-guards order h bs = splitOption (firstReason order) (λ q. rw q) (λ r q. rw q)
+
+  -- One command gives a heap without guards none.
+  step-unguarded : (k : Command) → heap m .guards ≡ 0 → heap (after m k) .guards ≡ 0
+  step-unguarded (command.Limit o g b) z = splitOption (firstReason (limitOrder o)) (λ q. rw q z) (λ r q. rw q z)
+  step-unguarded (command.Make b r) z =
+      splitOption (firstReason (makeOrder m b r))
+      (λ q. rw q (splitOption (firstReason (initOrder (take b (m .arena)) (take (4 * r) (m .table)) (plan m))) (λ p. rw p) (λ t p. rw p)))
+      (λ t q. rw q z)
+  step-unguarded (command.Ask o n a) z = call-guards (allocOrder (isValid (stored m)) (config (stored m)) (state (stored m)) (bytes m) o n a) (placing (config (stored m)) (state (stored m)) o n a) [] ∙ z
+  step-unguarded (command.Back o x) z = call-guards (freeOrder (isValid (stored m)) (config (stored m)) (state (stored m)) (bytes m) o x) (releasing (state (stored m)) x) [] ∙ z
+  step-unguarded command.Unreadable z = z
+
+-- No heap of a script has guards: not after any lines.
+lines-unguarded : (m : Machine) (ls : List (List ℕ)) → heap m .guards ≡ 0 → heap (afterLines m ls) .guards ≡ 0
+lines-unguarded m [] z = z
+lines-unguarded m (l ∷ ls) z = lines-unguarded (after m (readLine l)) ls (step-unguarded m (readLine l) z)
+
+-- So it is from the start on.
+pub script-unguarded : (words bytes : List ℕ) (ls : List (List ℕ)) → heap (afterLines (machine started words bytes) ls) .guards ≡ 0
+script-unguarded words bytes ls = lines-unguarded (machine started words bytes) ls refl
 
 -- After lines there is a heap if there was one, or if some make among them was granted.
 lines-valid : (m : Machine) (ls : List (List ℕ)) → isValid (stored (afterLines m ls)) ≡ either (isValid (stored m)) (makes m ls)

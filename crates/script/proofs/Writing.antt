@@ -123,6 +123,7 @@ refused-line refusal.ArenaLength = refl
 refused-line refusal.PastEnd = refl
 refused-line refusal.NotAligned = refl
 refused-line refusal.FreeMemory = refl
+refused-line refusal.BrokenGuard = refl
 
 -- So is each refusal of a making.
 pub not-made-line : (r : InitRefusal) → answerLine (answer.NotMade r) ≡ lineOf (ascii "no") (initNumberOf r ∷ [])

@@ -1,7 +1,7 @@
 -- What a script is carried out on, and what each command answers and leaves, for every state.
 -- Assumes nothing.
 use Prim.Native.Nat.{ℕ, _-_, _*_}
-use mathlib.Core.Bool.{not}
+use mathlib.Core.Bool.{false, not}
 use mathlib.Core.List.{List, [], _∷_, _++_}
 use lib.Dec.{ltb}
 use lib.ListN.{length, take, drop, set, replicate}
@@ -50,9 +50,9 @@ started = record { «granule_quotas» = replicate 8 0; «block_quotas» = replic
 abbrev pub withHeap : Script → Heap → Script
 withHeap s r = record { «granule_quotas» = s .«granule_quotas»; «block_quotas» = s .«block_quotas»; heap = r }
 
--- A make is handed the quotas that the limit lines gave; its heaps keep document 01's form, so their base is 0.
+-- A make is handed the quotas that the limit lines gave; its heaps keep document 01's form, so their base is 0, and they have no guards.
 abbrev pub planOf : Script → Plan
-planOf s = record { base = 0; «granule_quotas» = s .«granule_quotas»; «block_quotas» = s .«block_quotas» }
+planOf s = record { base = 0; guarded = false; «granule_quotas» = s .«granule_quotas»; «block_quotas» = s .«block_quotas» }
 
 -- A make refuses more than so many bytes, whatever is lent.
 abbrev pub mostBytes : ℕ
@@ -138,7 +138,7 @@ module _ (m : Machine) where
   abbrev pub answerTo : Command → Answer
   answerTo (command.Limit o g b) = unless (limitOrder o) (answer.Ok g) answer.Refused
   answerTo (command.Make b r) = unless (makeOrder b r) (answer.Ok b) answer.NotMade
-  answerTo (command.Ask o n a) = placedAnswer (calls.allocAligned stored o n a)
+  answerTo (command.Ask o n a) = placedAnswer (calls.allocAligned stored bytes o n a)
   answerTo (command.Back o x) = freedAnswer (calls.free stored bytes o x)
   answerTo command.Unreadable = answer.Unreadable
 
@@ -146,7 +146,7 @@ module _ (m : Machine) where
   abbrev pub numberedTo : Command → Numbered
   numberedTo (command.Limit o g b) = numberedBy numberOf (limitOrder o) (g ∷ [])
   numberedTo (command.Make b r) = numberedBy initNumberOf (makeOrder b r) (b ∷ [])
-  numberedTo (command.Ask o n a) = calls.numberedAlloc stored o n a
+  numberedTo (command.Ask o n a) = calls.numberedAlloc stored bytes o n a
   numberedTo (command.Back o x) = calls.numberedFree stored bytes o x
   numberedTo command.Unreadable = (14, 0 ∷ [])
 
@@ -154,7 +154,8 @@ module _ (m : Machine) where
   abbrev pub after : Command → Machine
   after (command.Limit o g b) = unless (limitOrder o) (limited o g b) (λ r. m)
   after (command.Make b r) = unless (makeOrder b r) (made b r) (λ r. m)
-  after (command.Ask o n a) = leaving (calls.afterAllocAligned stored o n a) (m .arena)
+  after (command.Ask o n a) =
+      leaving (calls.afterAllocAligned stored bytes o n a) (calls.arenaAfterAllocAligned stored bytes o n a ++ drop (16 * heap .granules) (m .arena))
   after (command.Back o x) =
       leaving (calls.afterFree stored bytes o x) (calls.arenaAfterFree stored bytes o x ++ drop (16 * heap .granules) (m .arena))
   after command.Unreadable = m

@@ -44,7 +44,7 @@ returns : tie.Need-returns
 returns c =
     let d = c .before .before .before .before .before .before .before in
     let k = d .before .before .before in
-    back-done _ _ _ _ _ _ _ (k .before .table-words .ensures) (k .arena-bytes .ensures) _ _ _ (d .free .ensures) _ (c .before .freed-answer .ensures) (c .with-heap .ensures)
+    back-done _ _ _ _ _ (k .before .table-words .ensures) (k .arena-bytes .ensures) _ _ _ _ _ (d .free .ensures) _ (c .before .freed-answer .ensures) (c .with-heap .ensures)
 
 pub back-spec : {M : Type 1} → statement M
 back-spec =

@@ -50,16 +50,19 @@ returns-2 c =
 same-length-3 : tie.Need-same-length-3
 same-length-3 c = search needs
 
-returns-3 : tie.Need-returns-3
-returns-3 c =
-    let d = c .before .before in
-    rw (d .before .before .before .command3 .given .1) (d .ask .ensures _)
-
 same-length-4 : tie.Need-same-length-4
 same-length-4 c = search needs
 
+returns-3 : tie.Need-returns-3
+returns-3 c =
+    let d = c .before .before .before .before in
+    rw (d .before .before .before .before .command3 .given .1) (d .ask .ensures)
+
 same-length-5 : tie.Need-same-length-5
 same-length-5 c = search needs
+
+same-length-6 : tie.Need-same-length-6
+same-length-6 c = search needs
 
 returns-4 : tie.Need-returns-4
 returns-4 c =
@@ -87,8 +90,9 @@ carry-out-spec =
     same-length-2
     returns-2
     same-length-3
-    returns-3
     same-length-4
+    returns-3
     same-length-5
+    same-length-6
     returns-4
     returns-5)
