@@ -19,10 +19,7 @@ use printing::print_refusal;
 use printing::print_rows;
 use printing::print_totals;
 use printing::print_value;
-
-fn print_word(name: &[u8], n: u32) {
-    print_value(name, n as u64);
-}
+use printing::print_word;
 
 fn print_place(base: u32, offset: u32) {
     print_word(b": ok ", offset);
@@ -52,6 +49,7 @@ fn init_with(arena: &mut [u8], table: &mut [u32], base: u32, blocks: u32) -> Hea
     print_word(b" words base ", base);
     let plan = Plan {
         base: base,
+        guarded: false,
         granule_quotas: [65536, 0, 0, 0, 0, 0, 0, 0],
         block_quotas: [blocks, 0, 0, 0, 0, 0, 0, 0],
     };
@@ -104,13 +102,15 @@ fn print_realloc(offset: u32, size: u32) {
 
 fn alloc(heap: Heap, table: &mut [u32], size: u32) -> Heap {
     print_word(b"owner 1 alloc ", size);
-    let out = heap::alloc(heap, table, 1, size);
+    let mut unread = [0u8; 1];
+    let out = heap::alloc(heap, table, &mut unread, 1, size);
     allocated(out)
 }
 
 fn alloc_aligned(heap: Heap, table: &mut [u32], size: u32, align: u32) -> Heap {
     print_aligned(size, align);
-    let out = heap::alloc_aligned(heap, table, 1, size, align);
+    let mut unread = [0u8; 1];
+    let out = heap::alloc_aligned(heap, table, &mut unread, 1, size, align);
     allocated(out)
 }
 
@@ -432,7 +432,8 @@ fn record_base() {
 
 fn driver_alloc(heap: Heap, table: &mut [u32], size: u32, align: u32) -> Heap {
     print_aligned(size, align);
-    let out = driver::alloc_aligned_by_value(heap, table, 1, size, align);
+    let mut unread = [0u8; 1];
+    let out = driver::alloc_aligned_by_value(heap, table, &mut unread, 1, size, align);
     allocated(out)
 }
 

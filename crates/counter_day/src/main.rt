@@ -23,20 +23,27 @@ fn print_task(owner: u32) {
     }
 }
 
-fn alloc(heap: Heap, table: &mut [u32; 68], owner: u32, size: u32) -> Heap {
+fn alloc(heap: Heap, table: &mut [u32; 68], arena: &mut [u8; 512], owner: u32, size: u32) -> Heap {
     print_task(owner);
     print_value(b" alloc ", size as u64);
-    let out = driver::alloc_by_value(heap, table, owner, size);
+    let out = driver::alloc_by_value(heap, table, arena, owner, size);
     let placed = out.placed;
     print_placed(placed);
     out.heap
 }
 
-fn alloc_aligned(heap: Heap, table: &mut [u32; 68], owner: u32, size: u32, align: u32) -> Heap {
+fn alloc_aligned(
+    heap: Heap,
+    table: &mut [u32; 68],
+    arena: &mut [u8; 512],
+    owner: u32,
+    size: u32,
+    align: u32,
+) -> Heap {
     print_task(owner);
     print_value(b" alloc ", size as u64);
     print_value(b" on ", align as u64);
-    let out = driver::alloc_aligned_by_value(heap, table, owner, size, align);
+    let out = driver::alloc_aligned_by_value(heap, table, arena, owner, size, align);
     let placed = out.placed;
     print_placed(placed);
     out.heap
@@ -97,6 +104,7 @@ fn init(table: &mut [u32; 68], arena: &mut [u8; 512]) -> Heap {
     io::write_all(1, b"init 512 bytes 17 rows");
     let plan = Plan {
         base: 0,
+        guarded: false,
         granule_quotas: [10, 10, 8, 0, 0, 0, 0, 0],
         block_quotas: [3, 3, 2, 0, 0, 0, 0, 0],
     };
@@ -109,12 +117,12 @@ fn init(table: &mut [u32; 68], arena: &mut [u8; 512]) -> Heap {
 // The modem's boundary leaves two granules free, and the next block that fits goes there.
 fn morning(heap: Heap, table: &mut [u32; 68], arena: &mut [u8; 512]) -> Heap {
     let mut h = heap;
-    h = alloc(h, table, 1, 40);
-    h = alloc(h, table, 2, 100);
-    h = alloc_aligned(h, table, 3, 64, 64);
-    h = alloc(h, table, 1, 17);
-    h = alloc(h, table, 2, 64);
-    h = alloc_aligned(h, table, 3, 80, 24);
+    h = alloc(h, table, arena, 1, 40);
+    h = alloc(h, table, arena, 2, 100);
+    h = alloc_aligned(h, table, arena, 3, 64, 64);
+    h = alloc(h, table, arena, 1, 17);
+    h = alloc(h, table, arena, 2, 64);
+    h = alloc_aligned(h, table, arena, 3, 80, 24);
     h = free(h, table, arena, 3, 0);
     h
 }
@@ -124,7 +132,7 @@ fn noon(heap: Heap, table: &mut [u32; 68], arena: &mut [u8; 512]) -> Heap {
     let mut h = heap;
     h = free(h, table, arena, 1, 0);
     h = free(h, table, arena, 1, 0);
-    h = alloc(h, table, 2, 48);
+    h = alloc(h, table, arena, 2, 48);
     h = free(h, table, arena, 1, 0);
     h
 }
@@ -132,12 +140,12 @@ fn noon(heap: Heap, table: &mut [u32; 68], arena: &mut [u8; 512]) -> Heap {
 // The block quota, an alignment with no place left, a hole too short, and an offset that is no multiple of 16.
 fn evening(heap: Heap, table: &mut [u32; 68], arena: &mut [u8; 512]) -> Heap {
     let mut h = heap;
-    h = alloc(h, table, 1, 33);
-    h = alloc(h, table, 1, 80);
-    h = alloc(h, table, 1, 1);
-    h = alloc_aligned(h, table, 3, 64, 256);
+    h = alloc(h, table, arena, 1, 33);
+    h = alloc(h, table, arena, 1, 80);
+    h = alloc(h, table, arena, 1, 1);
+    h = alloc_aligned(h, table, arena, 3, 64, 256);
     h = free(h, table, arena, 3, 192);
-    h = alloc(h, table, 3, 128);
+    h = alloc(h, table, arena, 3, 128);
     h = free(h, table, arena, 2, 48);
     h = free(h, table, arena, 1, 161);
     h
@@ -171,9 +179,9 @@ fn sizes(heap: Heap, table: &[u32; 68]) {
 fn resizes(heap: Heap, table: &mut [u32; 68], arena: &mut [u8; 512]) -> Heap {
     let mut h = heap;
     h = realloc(h, table, arena, 3, 384, 0);
-    h = alloc(h, table, 3, 40);
+    h = alloc(h, table, arena, 3, 40);
     h = realloc(h, table, arena, 3, 48, 112);
-    h = alloc(h, table, 2, 64);
+    h = alloc(h, table, arena, 2, 64);
     arena[148] = 7;
     h = realloc(h, table, arena, 3, 48, 128);
     print_byte(148, arena[148]);

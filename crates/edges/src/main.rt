@@ -24,6 +24,7 @@ fn init(arena: &mut [u8], table: &mut [u32]) -> Heap {
     print_capacity(table.len() / 4);
     let plan = Plan {
         base: 0,
+        guarded: false,
         granule_quotas: [65536, 0, 0, 0, 0, 0, 0, 0],
         block_quotas: [256, 0, 0, 0, 0, 0, 0, 0],
     };
@@ -35,7 +36,8 @@ fn init(arena: &mut [u8], table: &mut [u32]) -> Heap {
 
 fn alloc(heap: Heap, table: &mut [u32], size: u32) -> Heap {
     print_value(b"alloc ", size as u64);
-    let out = heap::alloc(heap, table, 1, size);
+    let mut unread = [0u8; 1];
+    let out = heap::alloc(heap, table, &mut unread, 1, size);
     let placed = out.placed;
     print_placed(placed);
     out.heap
@@ -44,7 +46,8 @@ fn alloc(heap: Heap, table: &mut [u32], size: u32) -> Heap {
 fn alloc_aligned(heap: Heap, table: &mut [u32], size: u32, align: u32) -> Heap {
     print_value(b"alloc ", size as u64);
     print_value(b" on ", align as u64);
-    let out = heap::alloc_aligned(heap, table, 1, size, align);
+    let mut unread = [0u8; 1];
+    let out = heap::alloc_aligned(heap, table, &mut unread, 1, size, align);
     let placed = out.placed;
     print_placed(placed);
     out.heap

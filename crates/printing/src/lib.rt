@@ -1,18 +1,23 @@
-// What `addresses`, `counter_day`, `edges` and `resizes` print alike: a call's answer, `ok` and the value or `no` and the papers' number, and the rows
-// and bytes afterwards.
-ghost use Prim.Native.Nat.{_<_};
+// What `addresses`, `counter_day`, `edges`, `guards` and `resizes` print alike: a call's answer, `ok` and the value or `no` and the papers' number, what
+// a task writes, and the rows and bytes afterwards.
+ghost use Prim.Native.Nat.{_<_, _≤_, _+_};
 use model::BlockSize;
 use model::Freed;
 use model::Holding;
 use model::Made;
 use model::Placed;
 use model::Refusal;
+use model::Resized;
 use model::Totals;
 
 // A number behind its name.
 pub fn print_value(name: &[u8], n: u64) {
     io::write_all(1, name);
     io::print_decimal(1, n);
+}
+
+pub fn print_word(name: &[u8], n: u32) {
+    print_value(name, n as u64);
 }
 
 pub fn end_line() {
@@ -52,6 +57,18 @@ pub fn print_freed(freed: Freed) {
     match freed {
         Freed::Bytes(bytes) => print_ok(bytes as u64),
         Freed::Refused(why) => print_refusal(why),
+    }
+}
+
+// An answer that is bytes given back, as a return's, says so.
+pub fn print_resized(resized: Resized) {
+    match resized {
+        Resized::At(offset) => print_ok(offset as u64),
+        Resized::Freed(bytes) => {
+            print_value(b": ok ", bytes as u64);
+            io::write_all(1, b" bytes\n");
+        }
+        Resized::Refused(why) => print_refusal(why),
     }
 }
 
@@ -98,6 +115,36 @@ pub fn print_totals(totals: Totals) {
 pub fn print_byte(at: u32, byte: u8) {
     print_value(b"byte ", at as u64);
     print_value(b": ", byte as u64);
+    end_line();
+}
+
+// A task, or a stray hand in free memory, sets some bytes to a value.
+pub fn write(arena: &mut [u8; 256], count: usize, value: u8, at: usize)
+    requires { ⌜ at + count ≤ 256 ⌝ }
+{
+    print_value(b"write ", count as u64);
+    print_value(b" of ", value as u64);
+    print_value(b" at ", at as u64);
+    end_line();
+    segments::fill(arena, at, count, value);
+}
+
+fn print_run(from: usize, value: u8) {
+    print_value(b" ", from as u64);
+    print_value(b":", value as u64);
+}
+
+// All bytes of the arena, as runs of equal ones: where each begins, and its value.
+pub fn print_bytes(arena: &[u8; 256]) {
+    io::write_all(1, b"bytes");
+    let mut value = arena[0];
+    print_run(0, value);
+    for i in 1..256usize {
+        if arena[i] != value {
+            value = arena[i];
+            print_run(i, value);
+        }
+    }
     end_line();
 }
 

@@ -1,36 +1,23 @@
 // Document 02's cases of a resize, request [2] with [1]'s order of refusals, and both sides of each edge. Each call is printed with its answer, `ok`
 // and the value or `no` and the papers' number. What the papers' rules give stands in `stdout`, beside `src/`. Each heap has 16 granules and 8 rows.
-ghost use Prim.Native.Nat.{_≤_, _+_};
 use heap::Heap;
 use model::Plan;
-use model::Resized;
-use printing::end_line;
+use printing::print_bytes;
 use printing::print_freed;
 use printing::print_made;
-use printing::print_ok;
 use printing::print_placed;
-use printing::print_refusal;
+use printing::print_resized;
 use printing::print_rows;
 use printing::print_totals;
 use printing::print_value;
-
-// An answer that is bytes given back, as a return's, says so.
-fn print_resized(resized: Resized) {
-    match resized {
-        Resized::At(offset) => print_ok(offset as u64),
-        Resized::Freed(bytes) => {
-            print_value(b": ok ", bytes as u64);
-            io::write_all(1, b" bytes\n");
-        }
-        Resized::Refused(why) => print_refusal(why),
-    }
-}
+use printing::write;
 
 // Owner 1 has the largest quotas there are, owner 2 has 4 granules and 1 block.
 fn init(table: &mut [u32; 32], arena: &mut [u8; 256]) -> Heap {
     io::write_all(1, b"init 256 bytes 8 rows");
     let plan = Plan {
         base: 0,
+        guarded: false,
         granule_quotas: [65536, 4, 0, 0, 0, 0, 0, 0],
         block_quotas: [256, 1, 0, 0, 0, 0, 0, 0],
     };
@@ -43,7 +30,8 @@ fn init(table: &mut [u32; 32], arena: &mut [u8; 256]) -> Heap {
 fn alloc(heap: Heap, table: &mut [u32; 32], owner: u32, size: u32) -> Heap {
     print_value(b"owner ", owner as u64);
     print_value(b" alloc ", size as u64);
-    let out = heap::alloc(heap, table, owner, size);
+    let mut unread = [0u8; 1];
+    let out = heap::alloc(heap, table, &mut unread, owner, size);
     let placed = out.placed;
     print_placed(placed);
     out.heap
@@ -53,7 +41,8 @@ fn alloc_aligned(heap: Heap, table: &mut [u32; 32], owner: u32, size: u32, align
     print_value(b"owner ", owner as u64);
     print_value(b" alloc ", size as u64);
     print_value(b" on ", align as u64);
-    let out = heap::alloc_aligned(heap, table, owner, size, align);
+    let mut unread = [0u8; 1];
+    let out = heap::alloc_aligned(heap, table, &mut unread, owner, size, align);
     let placed = out.placed;
     print_placed(placed);
     out.heap
@@ -95,36 +84,6 @@ fn realloc(
     size: u32,
 ) -> Heap {
     realloc_in(heap, table, arena, owner, offset, size)
-}
-
-// A task, or a stray hand in free memory, sets some bytes to a value.
-fn write(arena: &mut [u8; 256], count: usize, value: u8, at: usize)
-    requires { ⌜ at + count ≤ 256 ⌝ }
-{
-    print_value(b"write ", count as u64);
-    print_value(b" of ", value as u64);
-    print_value(b" at ", at as u64);
-    end_line();
-    segments::fill(arena, at, count, value);
-}
-
-fn print_run(from: usize, value: u8) {
-    print_value(b" ", from as u64);
-    print_value(b":", value as u64);
-}
-
-// All bytes of the arena, as runs of equal ones: where each begins, and its value.
-fn print_bytes(arena: &[u8; 256]) {
-    io::write_all(1, b"bytes");
-    let mut value = arena[0];
-    print_run(0, value);
-    for i in 1..256usize {
-        if arena[i] != value {
-            value = arena[i];
-            print_run(i, value);
-        }
-    }
-    end_line();
 }
 
 fn show(heap: Heap, table: &[u32; 32], arena: &[u8; 256]) {

@@ -1,10 +1,10 @@
--- `resizes::print_bytes` is safe and ends. The loop's invariant: the index is at most the arena's length. The measure is what is left of it.
+-- `printing::print_bytes` is safe and ends. The loop's invariant: the index is at most the arena's length. The measure is what is left of it.
 -- Assumes nothing.
 use Prim.Native.Nat.{_≤_, _-_}
 use native.Mathlib.Omega.{arith}
 use borrow.Author.Needs.{needs}
-use Rattle.resizes.proofs.print_bytes.Statement.{statement}
-use Rattle.resizes.proofs.print_bytes.Tie as tie
+use Rattle.printing.proofs.print_bytes.Statement.{statement}
+use Rattle.printing.proofs.print_bytes.Tie as tie
 
 abbrev Inv-loop : tie.InvT-loop
 Inv-loop arena value₀ i₀ value i = i ≤ 256
