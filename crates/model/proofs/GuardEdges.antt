@@ -4,7 +4,7 @@ use mathlib.Core.Path.{◌≡◌, refl}
 use mathlib.Core.Bool.{Bool, true, false}
 use mathlib.Core.List.{List, [], ◌∷◌, ◌++◌, map}
 use Prim.Native.Nat.{ℕ, zero, suc, ◌+◌, max}
-use lib.ListN.{replicate, take, drop, length}
+use lib.ListN.{replicate, take, drop}
 use Rattle.model.specs.Choose.{given}
 use Rattle.model.specs.Quantities.{Config, in_range}
 use Rattle.model.specs.Allocation.{State, needed, granules_of}

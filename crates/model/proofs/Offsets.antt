@@ -137,20 +137,20 @@ pub record Member (c : Config) (s : ℕ) (b : Segment) : Type 0 where
   pub live : Live c b
 
 module _ (c : Config) where
-  pub member : (s : ℕ) (bs : List Segment) (b : Segment) → Ordered c s bs → Memᴰ b bs → Member c s b
-  member s bs b o (Memᴰ.head {x = x} {xs = ys} q) =
+  pub member : (b : Segment) (s : ℕ) (bs : List Segment) → Ordered c s bs → Memᴰ b bs → Member c s b
+  member b s bs o (Memᴰ.head {x = x} {xs = ys} q) =
       subst (Member c s) (sym q) (record { from = o.0; inside = in_arena_lem c (x.start + x.length) ys o.2; live = o.1 })
-  member s bs b o (Memᴰ.tail {x = x} {xs = ys} m) =
-      let r : Member c (x.start + x.length) b = member (x.start + x.length) ys b o.2 m in
+  member b s bs o (Memᴰ.tail {x = x} {xs = ys} m) =
+      let r : Member c (x.start + x.length) b = member b (x.start + x.length) ys o.2 m in
       record { from = omega (arith, r.from); inside = r.inside; live = r.live }
 
   -- The live block that has granule i is the block over it.
-  pub over_live : (s i : ℕ) (bs : List Segment) (b : Segment) → Ordered c s bs → Memᴰ b bs → has_granule i b ≡ true → block_over i bs ≡ some b
-  over_live s i bs b o (Memᴰ.head {x = x} {xs = ys} q) h =
+  pub over_live : (b : Segment) (s i : ℕ) (bs : List Segment) → Ordered c s bs → Memᴰ b bs → has_granule i b ≡ true → block_over i bs ≡ some b
+  over_live b s i bs o (Memᴰ.head {x = x} {xs = ys} q) h =
       let z : has_granule i x ≡ true = subst (λ (k : Segment). has_granule i k ≡ true) q h in rw z (ap some (sym q))
-  over_live s i bs b o (Memᴰ.tail {x = x} {xs = ys} m) h =
-      let r : Member c (x.start + x.length) b = member (x.start + x.length) ys b o.2 m in
-      rw (granule_after i x (omega (arith, r.from, granule_in i b h))) (over_live (x.start + x.length) i ys b o.2 m h)
+  over_live b s i bs o (Memᴰ.tail {x = x} {xs = ys} m) h =
+      let r : Member c (x.start + x.length) b = member b (x.start + x.length) ys o.2 m in
+      rw (granule_after i x (omega (arith, r.from, granule_in i b h))) (over_live b (x.start + x.length) i ys o.2 m h)
 
   -- No live block has granule i exactly if one granule at i is clear of all of them.
   pub over_clear : (s i : ℕ) (bs : List Segment) → Ordered c s bs → is_none (block_over i bs) ≡ every (clear_of i 1) bs
