@@ -31,7 +31,7 @@ more_sums : (f : Segment → ℕ) (l r : List ℕ) (x : Segment) (bs : List Segm
 more_sums f l r x bs h m e s o a b =
     let v : ℕ = get_or l (x.owner - 1) 0 + f x in
     s o a b ∙ split (eqb x.owner o)
-    (λ q. let z : o ≡ x.owner = omega tests in rw (q, z, get_or-set_same l (x.owner - 1) v 0 (omega arith)) (omega arith))
+    (λ q. let z : o - 1 ≡ x.owner - 1 = omega tests in rw (q, z, get_or-set_same l (x.owner - 1) v 0 (omega arith)) (omega arith))
     (λ q. rw (q, get_or-set_other l (x.owner - 1) (o - 1) v 0 (λ z. omega tests)))
 
 module _ (c : Config) where

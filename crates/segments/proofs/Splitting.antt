@@ -6,7 +6,7 @@ use Rattle.model.specs.Quantities.{Config}
 use Rattle.model.specs.Allocation.{clear_of, room, insert}
 use Rattle.model.specs.SegmentMap.{is_free, is_live, gap, map_of, rows_of}
 use Rattle.model.proofs.Choosing.{split, tests, both_left, parts, both_true, every_head, every_tail, every_append, only_append, every_back, every_only, every_picked}
-use Rattle.model.proofs.Ordered.{Live, Ordered, long, clear_before, place}
+use Rattle.model.proofs.Ordered.{Live, Ordered, long, clear_before}
 use Rattle.model.proofs.MapRows.{gap_short}
 use Rattle.segments.specs.Rows.{segment_at, segments_in, blocks_in}
 use Rattle.segments.specs.Tiling.{tiles, well_formed, is_map}

@@ -1,6 +1,6 @@
 -- Segments that tile an arena, are well formed and have no two free ones that touch are the map of their live ones.
 -- Assumes nothing.
-use Rattle.std.proofs.Common.{◌≡◌, ℕ, ◌+◌, ◌-◌, ◌*◌, ◌≤◌, true, false, not, eqb, leb, List, [], ◌∷◌, length, sym, refl, ap, subst, arith, le-ltb, lt-ltb, eqb-true}
+use Rattle.std.proofs.Common.{◌≡◌, ℕ, ◌+◌, ◌-◌, ◌*◌, ◌≤◌, true, false, not, eqb, leb, List, [], ◌∷◌, sym, refl, ap, subst, arith, le-ltb, lt-ltb, eqb-true}
 use Rattle.model.specs.Choose.{both, every, only, total}
 use Rattle.model.specs.Quantities.{within, Config}
 use Rattle.model.specs.Allocation.{charge, granules_of, owned_by}

@@ -1,4 +1,6 @@
 // The table: rows in a lent slice of words. No function here keeps anything: the caller hands in how many rows are in use.
+#![tactic(auto)]
+
 ghost use Rattle.std.specs.Prelude.{◌≡◌, ◌+◌, ◌-◌, ◌*◌, ◌%◌, ◌<◌, ◌≤◌, max, true, [], ◌∷◌, ◌++◌, length, drop, replicate, ◌==◌, nat_eq, nat_le};
 ghost use Rattle.model.specs.Choose.{choose, either, both, every};
 ghost use Rattle.model.specs.Quantities.{Config, is_alignment};
@@ -15,7 +17,7 @@ ghost use Rattle.segments.specs.Steps.{opened, closed, padding, none_counted, fo
 use model::{Segment, granules_with};
 
 // What first fit found: the row that has room and the start granule, or that no start serves.
-#[derive(Drop)]
+#[derive(Clone, Copy)]
 pub enum Fit {
     At { row: usize, start: u32 },
     Nothing,
@@ -24,7 +26,7 @@ pub enum Fit {
 // What a pass over the rows has counted: whether the rows so far may begin a map (after the whole pass, whether they are one); the granule where they
 // end, and whether the last is free, which only the pass needs; the granules of the live blocks and of the longest free run; and for each of
 // owners 1 to 8 the number of its live blocks, and their granules.
-#[derive(Drop)]
+#[derive(Clone, Copy)]
 pub struct Census {
     pub ok: bool,
     pub end: u32,
@@ -50,7 +52,7 @@ pub fn row(table: &[u32], i: usize) -> Segment
 
 // Row i set.
 pub fn put_row(table: &mut [u32], i: usize, s: Segment)
-    requires* { do ⌜ 4 * i + 4 ≤ (← ⟦table.len()⟧) ⌝ }
+    requires { 4 * i + 4 ≤ length table.old }
     ensures { table.new ≡ with_row table.old i s }
 {
     table[4 * i] = s.start;
@@ -61,7 +63,7 @@ pub fn put_row(table: &mut [u32], i: usize, s: Segment)
 
 // The first n words of a part moved up by one row; the first row stays, for the caller to set.
 fn open_row(part: &mut [u32], n: usize)
-    requires* { do ⌜ n + 4 ≤ (← ⟦part.len()⟧) ⌝ }
+    requires { n + 4 ≤ length part.old }
     ensures { part.new ≡ opened n part.old }
 {
     let mut i = n;
@@ -73,7 +75,7 @@ fn open_row(part: &mut [u32], n: usize)
 
 // The n words after the first row of a part moved down by one row, and the row that they leave set to zero.
 fn close_row(part: &mut [u32], n: usize)
-    requires* { do ⌜ n + 4 ≤ (← ⟦part.len()⟧) ⌝ }
+    requires { n + 4 ≤ length part.old }
     ensures { part.new ≡ closed n part.old }
 {
     let mut i: usize = 0;
@@ -89,7 +91,7 @@ fn close_row(part: &mut [u32], n: usize)
 
 // A row more in use, at row i.
 pub fn insert_row(table: &mut [u32], rows: usize, i: usize, s: Segment)
-    requires* { do ⌜ (i ≤ rows) × (4 * rows + 4 ≤ (← ⟦table.len()⟧)) ⌝ }
+    requires { (i ≤ rows) × (4 * rows + 4 ≤ length table.old) }
     ensures { table.new ≡ with_rows rows table.old (inserted i s (segments_in rows table.old)) }
 {
     let at = 4 * i;
@@ -100,7 +102,7 @@ pub fn insert_row(table: &mut [u32], rows: usize, i: usize, s: Segment)
 
 // A row less in use: row i.
 pub fn remove_row(table: &mut [u32], rows: usize, i: usize)
-    requires* { do ⌜ (i < rows) × (4 * rows ≤ (← ⟦table.len()⟧)) ⌝ }
+    requires { (i < rows) × (4 * rows ≤ length table.old) }
     ensures { table.new ≡ with_rows rows table.old (removed i (segments_in rows table.old)) }
 {
     let at = 4 * i;
@@ -324,7 +326,7 @@ pub fn pieces(s: Segment, block: Segment) -> usize
 
 // A free row at row i for the granules from `from` up to `to`, if there are any; answers the rows in use.
 fn insert_gap(table: &mut [u32], rows: usize, i: usize, from: u32, to: u32) -> usize
-    requires* { do ⌜ (i ≤ rows) × (4 * (rows + length (gap from to)) ≤ (← ⟦table.len()⟧)) ⌝ }
+    requires { (i ≤ rows) × (4 * (rows + length (gap from to)) ≤ length table.old) }
     ensures { (result ≡ rows + length (gap from to)) × Rewritten rows table.old (replaced i 0 (gap from to) (segments_in rows table.old)) result table.new }
 {
     if from < to {
@@ -337,11 +339,10 @@ fn insert_gap(table: &mut [u32], rows: usize, i: usize, from: u32, to: u32) -> u
 
 // Row i cut for a block in it; answers the rows in use.
 pub fn split_row(table: &mut [u32], rows: usize, i: usize, block: Segment) -> usize
-    requires* { do
-      ⌜ (i < rows)
-          × (block.start + block.length ≤ 4294967295)
-          × ((segment_at table.old i).start + (segment_at table.old i).length ≤ 4294967295)
-          × (4 * (rows - 1 + length (cut (segment_at table.old i) block)) ≤ (← ⟦table.len()⟧)) ⌝ }
+    requires { (i < rows)
+        × (block.start + block.length ≤ 4294967295)
+        × ((segment_at table.old i).start + (segment_at table.old i).length ≤ 4294967295)
+        × (4 * (rows - 1 + length (cut (segment_at table.old i) block)) ≤ length table.old) }
     ensures { Rewritten rows table.old (replaced i 1 (cut (segment_at table.old i) block) (segments_in rows table.old)) result table.new }
 {
     let s = row(table, i);
@@ -354,7 +355,7 @@ pub fn split_row(table: &mut [u32], rows: usize, i: usize, block: Segment) -> us
 
 // Rows i and i + 1 made one if both are free; answers the rows in use.
 pub fn join_rows(table: &mut [u32], rows: usize, i: usize) -> usize
-    requires* { do ⌜ (i < rows) × (4 * rows ≤ (← ⟦table.len()⟧)) × (granules_of (segments_in rows table.old) ≤ 4294967295) ⌝ }
+    requires { (i < rows) × (4 * rows ≤ length table.old) × (granules_of (segments_in rows table.old) ≤ 4294967295) }
     ensures { Rewritten rows table.old (joined i (segments_in rows table.old)) result table.new }
 {
     if rows - i < 2 {
@@ -376,7 +377,7 @@ pub fn join_rows(table: &mut [u32], rows: usize, i: usize) -> usize
 
 // Row i made free and joined with its free neighbours; answers the rows in use.
 pub fn release_row(table: &mut [u32], rows: usize, i: usize) -> usize
-    requires* { do ⌜ (i < rows) × (4 * rows ≤ (← ⟦table.len()⟧)) × (granules_of (segments_in rows table.old) ≤ 4294967295) ⌝ }
+    requires { (i < rows) × (4 * rows ≤ length table.old) × (granules_of (segments_in rows table.old) ≤ 4294967295) }
     ensures { Rewritten rows table.old (released i (segments_in rows table.old)) result table.new }
 {
     let s = row(table, i);
@@ -519,7 +520,7 @@ fn zero_words(table: &mut [u32])
 
 // One free row over the whole arena, and every other word zero.
 pub fn reset(table: &mut [u32], granules: u32)
-    requires* { do ⌜ 4 ≤ (← ⟦table.len()⟧) ⌝ }
+    requires { 4 ≤ length table.old }
     ensures { table.new ≡ words_of (free_run 0 granules ∷ []) ++ replicate (length table.old - 4) 0 }
 {
     zero_words(table);
@@ -529,7 +530,7 @@ pub fn reset(table: &mut [u32], granules: u32)
 
 // A run of bytes set to one value.
 pub fn fill(bytes: &mut [u8], from: usize, count: usize, value: u8)
-    requires* { do ⌜ from + count ≤ (← ⟦bytes.len()⟧) ⌝ }
+    requires { from + count ≤ length bytes.old }
     ensures { bytes.new ≡ written from (replicate count value) bytes.old }
 {
     let end = from + count;
@@ -558,7 +559,7 @@ pub fn is_filled(bytes: &[u8], from: usize, count: usize, value: u8) -> bool
 
 // A run of bytes copied to a place that has none of them.
 fn copy(bytes: &mut [u8], from: usize, to: usize, count: usize)
-    requires* { do ⌜ (from + count ≤ (← ⟦bytes.len()⟧)) × (to + count ≤ (← ⟦bytes.len()⟧)) × (disjoint from count to count ≡ true) ⌝ }
+    requires { (from + count ≤ length bytes.old) × (to + count ≤ length bytes.old) × (disjoint from count to count ≡ true) }
     ensures { bytes.new ≡ written to (slice from count bytes.old) bytes.old }
 {
     let mut i: usize = 0;
@@ -571,7 +572,7 @@ fn copy(bytes: &mut [u8], from: usize, to: usize, count: usize)
 // The bytes of a block go with it, from a place of `held` bytes to one of `room`. If it is the same place, only what is past `room` is zeroed; else the two
 // have no byte in common, the new one is no shorter, and the old one is zeroed.
 pub fn move_bytes(bytes: &mut [u8], from: usize, held: usize, to: usize, room: usize)
-    requires* { do ⌜ (from + held ≤ (← ⟦bytes.len()⟧)) × (to + room ≤ (← ⟦bytes.len()⟧)) × (either (from == to) (both (nat_le held room) (disjoint from held to room)) ≡ true) ⌝ }
+    requires { (from + held ≤ length bytes.old) × (to + room ≤ length bytes.old) × (either (from == to) (both (nat_le held room) (disjoint from held to room)) ≡ true) }
     ensures { bytes.new ≡ moved from held to room bytes.old }
 {
     if from != to {
