@@ -1,8 +1,7 @@
 -- What the contracts of this layer come to, for a reader.
 -- Assumes nothing.
-use Prim.Native.Nat.{ℕ}
+use Rattle.std.specs.Prelude.{ℕ, List}
 use mathlib.Core.Path.{◌≡◌, sym, ◌∙◌, ap}
-use mathlib.Core.List.{List}
 use Rattle.heap.specs.Stored.{Stored, handed}
 use Rattle.heap.specs.Promises.{AllocDone, FreeDone, ReallocDone}
 use Rattle.heap.proofs.Laws.{alloc_refused, free_refused}

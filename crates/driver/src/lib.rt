@@ -1,5 +1,7 @@
 // The drivers' layer: the heap's record is lent, and updated where it stands. Each call does what the one of `heap` with the same name does: the same
 // answer, and the same record, words and bytes afterwards. Making is not here, since there is no record yet to lend.
+#![tactic(auto)]
+
 ghost use Rattle.heap.specs.Promises.{AllocDone, FreeDone, ReallocDone, BlockSizeDone, TotalsDone, HoldingDone};
 
 use heap::{Allocated, Heap, Reallocated, Released};
