@@ -6,7 +6,8 @@ use Rattle.model.specs.Quantities.{Config}
 use Rattle.model.specs.Rules.{init_config}
 use Rattle.model.specs.Run.{after, history}
 use Rattle.heap.specs.Stored.{Stored, handed}
-use Rattle.heap.specs.Calls.{after_init, alloc_aligned}
+use Rattle.heap.specs.Calls.{after_init}
+use Rattle.heap.specs.Calls as calls
 use Rattle.guarantee.specs.Lists.{Call, alloc, alloc_aligned, free, realloc, block_size, totals, holding, Answer, execute}
 use Rattle.guarantee.specs.Guarantee.{state_after, stored_after, Served, Guaranteed}
 use Rattle.guarantee.specs.Performed.{Promised, Entry, Performed, calls_of, Demand3Performed}
@@ -45,6 +46,6 @@ performed_guaranteed arena words p out arena_left words_left d done es t run =
       stored = left ∙ g.stored;
       guaranteed = g;
       served = λ bytes o n a e r u k.
-          let s : Served c (state_after c (calls_of es)) n a (alloc_aligned (stored_after (after_init arena words p) (calls_of es)) bytes o n a) = g.served bytes o n a e in
-          (s.0, s.1, k.1.answer ∙ ap (λ (w : Stored). alloc_aligned w bytes o n a) left ∙ s.2);
+          let s : Served c (state_after c (calls_of es)) n a (calls.alloc_aligned (stored_after (after_init arena words p) (calls_of es)) bytes o n a) = g.served bytes o n a e in
+          (s.0, s.1, k.1.answer ∙ ap (λ (w : Stored). calls.alloc_aligned w bytes o n a) left ∙ s.2);
     }

@@ -28,7 +28,8 @@ use Rattle.model.proofs.Asked.{block_refuses, size_asks, free_memory_lem}
 use Rattle.heap.specs.Stored.{Stored, handed, store}
 use Rattle.heap.specs.Valid.{valid}
 use Rattle.heap.specs.Promises.{InitDone}
-use Rattle.heap.specs.Calls.{init, after_init, free, after_free, realloc, after_realloc, block_size, is_valid, config, state}
+use Rattle.heap.specs.Calls.{init, after_init, free, after_free, realloc, after_realloc, is_valid, config, state}
+use Rattle.heap.specs.Calls as heap_calls
 use Rattle.heap.proofs.Making.{init_range, init_leaves, fresh_kept}
 use Rattle.guarantee.specs.Lists.{Call, alloc, alloc_aligned, free as return, realloc as resize, block_size, totals, holding, Answer, by_rules, execute}
 use Rattle.guarantee.specs.Guarantee.{state_after, stored_after}
@@ -123,7 +124,7 @@ abbrev pub Gets17 : Config → Stored → List Call → ℕ → Type 0
 Gets17 c s ks y =
     nothing_lent c (y / 16) (history execute s ks) ≡ true
     → (arena : List ℕ) (o : ℕ) → has_recorded_length c arena ≡ true → is_owner o ≡ true
-    → (free (stored_after s ks) arena o y ≡ freed.Refused refusal.FreeMemory) × (block_size (stored_after s ks) o y ≡ size.Refused refusal.FreeMemory)
+    → (free (stored_after s ks) arena o y ≡ freed.Refused refusal.FreeMemory) × (heap_calls.block_size (stored_after s ks) o y ≡ size.Refused refusal.FreeMemory)
     × ((n : ℕ) → realloc (stored_after s ks) arena o y n ≡ resized.Refused refusal.FreeMemory)
 
 -- of a heap that is written down, in a state as every call leaves it
@@ -138,7 +139,7 @@ module _ (c : Config) (ranged : in_range c ≡ true) (h : State) (k : Kept c h) 
       let f : first_reason (free_order true c g arena o y) ≡ some refusal.FreeMemory = block_refuses c g arena o y whole refusal.FreeMemory why in
       let b : first_reason (block_size_order true c g o y) ≡ some refusal.FreeMemory = size_asks c g o y ∙ why in (
         ap (λ (s : Stored). free s arena o y) (stored_after_lem c ranged h ks k) ∙ answers_same c g gk ranged (return arena o y) ∙ rw f,
-        ap (λ (s : Stored). block_size s o y) (stored_after_lem c ranged h ks k) ∙ answers_same c g gk ranged (block_size o y) ∙ rw b,
+        ap (λ (s : Stored). heap_calls.block_size s o y) (stored_after_lem c ranged h ks k) ∙ answers_same c g gk ranged (block_size o y) ∙ rw b,
         λ n. ap (λ (s : Stored). realloc s arena o y n) (stored_after_lem c ranged h ks k) ∙ answers_same c g gk ranged (resize arena o y n) ∙ rw (free_refuses true c g arena o y n refusal.FreeMemory f),
       )
 
