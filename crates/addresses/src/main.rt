@@ -1,6 +1,8 @@
 // Document 02's cases of a base address, request [3], and both sides of each edge. Each call is printed with its answer, `ok` and the value or `no` and
 // the papers' number, and a place also with its address, base plus offset. What the papers' rules give stands in `stdout`, beside `src/`. All blocks are
 // owner 1's, who has the largest quotas there are, so 5 and 6 never apply.
+#![tactic(auto)]
+
 use heap::{Allocated, Heap, Reallocated, Released};
 use model::{Placed, Plan, Resized};
 use printing::{

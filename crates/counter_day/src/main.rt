@@ -1,6 +1,8 @@
 // A counter's day over the drivers' layer: two checkout tasks (owners 1 and 2) and the modem (owner 3) borrow from one heap. Each call is printed with
 // its answer, `ok` and the values or `no` and its number, and some bytes of the arena as they are found. What the papers' rules give stands in `stdout`,
 // beside `src/`.
+#![tactic(auto)]
+
 use heap::Heap;
 use model::{Plan, Resized};
 use printing::{

@@ -1,5 +1,7 @@
 // Document 01's "Run:" cases, in its order and under its words. Each call is printed with its answer, `ok` and the value or `no` and document 01's
 // number. What 01's rules give stands in `stdout`, beside `src/`.
+#![tactic(auto)]
+
 use heap::Heap;
 use model::Plan;
 use printing::{print_freed, print_made, print_placed, print_rows, print_value};

@@ -1,7 +1,9 @@
 // Document 02's cases of guards, request [4], and both sides of each edge. Each call is printed with its answer, `ok` and the value or `no` and the
 // papers' number. What the papers' rules give stands in `stdout`, beside `src/`. Owner 1 has the largest quotas there are, owner 2 has 4 granules and 2
 // blocks.
-ghost use Rattle.std.specs.Prelude.{◌≤◌};
+#![tactic(auto)]
+
+ghost use Rattle.std.specs.Prelude.{length, ◌≤◌};
 
 use heap::{Allocated, Heap, Reallocated, Released};
 use model::Plan;
@@ -323,7 +325,7 @@ fn fills() {
 
 // Another arena's first 240 bytes are lent, or none of it.
 fn alloc_in_240(heap: Heap, table: &mut [u32], other: &mut [u8], owner: u32) -> Heap
-    requires* { do ⌜ 240 ≤ (← ⟦other.len()⟧) ⌝ }
+    requires { 240 ≤ length other.old }
 {
     print_other(240);
     alloc_in(heap, table, &mut other[0..240], owner, 16)

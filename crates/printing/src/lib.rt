@@ -1,5 +1,7 @@
 // What `addresses`, `counter_day`, `edges`, `guards` and `resizes` print alike: a call's answer, `ok` and the value or `no` and the papers' number, what
 // a task writes, and the rows and bytes afterwards.
+#![tactic(auto)]
+
 ghost use Rattle.std.specs.Prelude.{◌<◌, ◌≤◌, ◌+◌};
 
 use model::{BlockSize, Freed, Holding, Made, Placed, Refusal, Resized, Totals};

@@ -1,5 +1,7 @@
 // Document 02's cases of a resize, request [2] with [1]'s order of refusals, and both sides of each edge. Each call is printed with its answer, `ok`
 // and the value or `no` and the papers' number. What the papers' rules give stands in `stdout`, beside `src/`. Each heap has 16 granules and 8 rows.
+#![tactic(auto)]
+
 use heap::Heap;
 use model::Plan;
 use printing::{
