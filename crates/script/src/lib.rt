@@ -1,5 +1,7 @@
 // The script language of document 01: a line is read, its command is carried out on a heap, and the answer is put into a lent buffer.
 // A script comes in parts of any length, and nothing of it is kept but what has come of one line.
+#![tactic(auto)]
+
 ghost use Rattle.std.specs.Prelude.{◌≡◌, List, [], ◌∷◌, ◌++◌, ℕ, ◌+◌, ◌*◌, ◌≤◌, min, length, take, replicate};
 ghost use Rattle.segments.specs.Rows.{segments_in};
 ghost use Rattle.script.specs.Text.{number_in, same, decimal, spaced, line_of};
@@ -14,7 +16,7 @@ use model::{Freed, InitRefusal, Made, Placed, Plan, Refusal, Totals};
 use segments::row;
 
 // A line of a script, with its numbers, or a line that cannot be read.
-#[derive(Drop)]
+#[derive(Clone, Copy)]
 pub enum Command {
     Limit {
         owner: u32,
@@ -38,7 +40,7 @@ pub enum Command {
 }
 
 // What a line is answered: a value, or why not.
-#[derive(Drop)]
+#[derive(Clone, Copy)]
 pub enum Answer {
     Ok(u32),
     Refused(Refusal),
@@ -47,7 +49,7 @@ pub enum Answer {
 }
 
 // What a script keeps beside the lent table and arena: the quotas for the next make, and the heap's record, all zero until a make is granted.
-#[derive(Drop)]
+#[derive(Clone, Copy)]
 pub struct Script {
     pub granule_quotas: [u32; 8],
     pub block_quotas: [u32; 8],
@@ -55,14 +57,14 @@ pub struct Script {
 }
 
 // What a command is answered, and the script afterwards.
-#[derive(Drop)]
+#[derive(Clone, Copy)]
 pub struct Carried {
     pub answer: Answer,
     pub script: Script,
 }
 
 // A script whose input comes in parts: what has come of a line is the first `count` bytes of `line`, 81 of a line that is too long.
-#[derive(Drop)]
+#[derive(Clone, Copy)]
 pub struct Session {
     pub script: Script,
     pub line: [u8; 81],
@@ -70,7 +72,7 @@ pub struct Session {
 }
 
 // The session after a part of the input, the bytes that were taken of it, and the bytes that were written.
-#[derive(Drop)]
+#[derive(Clone, Copy)]
 pub struct Fed {
     pub session: Session,
     pub taken: usize,
@@ -78,35 +80,35 @@ pub struct Fed {
 }
 
 // How many bytes were put into a lent buffer, or that it is too short.
-#[derive(Drop)]
+#[derive(Clone, Copy)]
 pub enum Written {
     Bytes(usize),
     NoRoom,
 }
 
 // The script after a line, and the place after its answer.
-#[derive(Drop)]
+#[derive(Clone, Copy)]
 struct Answered {
     script: Script,
     end: usize,
 }
 
 // What is held of a line.
-#[derive(Drop)]
+#[derive(Clone, Copy)]
 struct Held {
     line: [u8; 81],
     count: u32,
 }
 
 // The number in a field, if there is one.
-#[derive(Drop)]
+#[derive(Clone, Copy)]
 enum Number {
     Value(u32),
     Nothing,
 }
 
 // The numbers after a command's word, if there are at most three and each can be read.
-#[derive(Drop)]
+#[derive(Clone, Copy)]
 enum Numbers {
     Zero,
     One(u32),
@@ -116,7 +118,7 @@ enum Numbers {
 }
 
 // A command's word.
-#[derive(Drop)]
+#[derive(Clone, Copy)]
 enum Word {
     Limit,
     Make,
