@@ -1,18 +1,17 @@
 // Runs a script of requests: reads standard input to its end, and writes the answer to each line, and the heap at the end, to standard output.
-ghost use Rattle.std.specs.Prelude.{◌≡◌, ◌*◌, ◌≤◌, length};
+#![tactic(auto)]
+
+ghost use Rattle.std.specs.Prelude.{◌≡◌, ℕ, ◌*◌, ◌≤◌, length, take, IfOk, OnOk, OnErr};
+ghost use Rattle.std.specs.Io.KnownBytes.{Appends};
 ghost use Rattle.script.specs.Promises.{FeedDone};
+ghost use Rattle.heapscript.specs.Steps.{AnswersPart, StopsPart, AnswersInput, StopsInput, WritesEnd, StopsEnd};
+ghost use Rattle.heapscript.specs.Whole.{AnswersScript, StopsScript};
 
 use script::{Fed, Session, Written};
+use std::io;
+use std::io::{Read, Write};
 
-// How far the input is answered: the session after a part, whether that was read and its answers written, and whether it was the end.
-#[derive(Drop)]
-struct Progress {
-    session: Session,
-    ok: bool,
-    end: bool,
-}
-
-// Answers the lines that end in a part of the input, all of which is taken.
+/// Answers the lines that end in a part of the input, all of which is taken.
 fn answer_whole(
     session: Session,
     table: &mut [u32],
@@ -26,60 +25,95 @@ fn answer_whole(
     script::feed(session, table, arena, input, out)
 }
 
-// Reads a part of the input, 4,096 bytes at most, and writes its answers.
-fn answer_part(session: Session, table: &mut [u32], arena: &mut [u8]) -> Progress {
-    let mut input = io::buffer();
-    let got = libc::read(0, &mut input);
-    let n = io::count(got, &input);
-    let mut out = io::large_buffer();
-    let fed = answer_whole(session, table, arena, &input[..n], &mut out);
-    let written = fed.written;
-    let ok = io::write_all(1, &out[..written]);
-    let after = fed.session;
-    Progress {
-        session: after,
-        ok: ok && 0 <= got,
-        end: n == 0,
-    }
-}
-
-// Answers the whole input, part by part, up to its end or the first failure. A loop needs a count that falls: no input has so many parts.
-fn answer_input(session: Session, table: &mut [u32], arena: &mut [u8]) -> Progress {
-    let mut progress = Progress {
-        session: session,
-        ok: true,
-        end: false,
-    };
-    let mut parts: u64 = 18446744073709551615;
-    while 0 < parts {
-        let s = progress.session;
-        progress = answer_part(s, table, arena);
-        if progress.end || !progress.ok {
-            return progress;
+/// Writes all of the bytes. Where that fails, some of the first ones are written, and no more.
+fn write_out<W: Write>(writer: &mut W, bytes: &[u8]) -> io::Result<()>
+    ensures ok { OnOk result (Appends (W.contents writer.old) (W.contents writer.new) bytes.now) }
+    ensures err { OnErr result ((n : ℕ) × Appends (W.contents writer.old) (W.contents writer.new) (take n bytes.now)) }
+{
+    let mut done = 0;
+    while done < bytes.len() {
+        let n = writer.write(&bytes[done..])?;
+        if n == 0 {
+            return Err(io::Error::from(io::ErrorKind::WriteZero));
         }
-        parts -= 1;
+        done += n;
     }
-    progress
+    Ok(())
 }
 
-// Writes what comes at the end.
-fn write_end(session: Session, table: &mut [u32], arena: &mut [u8]) -> bool {
-    let mut out = io::large_buffer();
-    let written = script::finish(session, table, arena, &mut out);
-    match written {
-        Written::Bytes(n) => io::write_all(1, &out[..n]),
-        Written::NoRoom => false,
+/// Reads a part of the input, 4,096 bytes at most, and writes its answers. The result is how many bytes it has: none at the end of the input.
+fn answer_part<R: Read, W: Write>(
+    reader: &mut R,
+    writer: &mut W,
+    session: &mut Session,
+    table: &mut [u32],
+    arena: &mut [u8],
+) -> io::Result<usize>
+    ensures ok { IfOk result (AnswersPart (R.remaining reader.old) (R.remaining reader.new) (W.contents writer.old) (W.contents writer.new) session.old table.old arena.old session.new table.new arena.new) }
+    ensures err { OnErr result (StopsPart (R.remaining reader.old) (R.remaining reader.new) (W.contents writer.old) (W.contents writer.new) session.old table.old arena.old) }
+{
+    let mut input = [0; 4096];
+    let n = reader.read(&mut input)?;
+    let mut out = [0; 57344];
+    let fed = answer_whole(*session, table, arena, &input[..n], &mut out);
+    *session = fed.session;
+    write_out(writer, &out[..fed.written])?;
+    Ok(n)
+}
+
+/// Answers the whole input, part by part, up to its end. A loop needs a bound: no input has so many parts.
+fn answer_input<R: Read, W: Write>(
+    reader: &mut R,
+    writer: &mut W,
+    session: &mut Session,
+    table: &mut [u32],
+    arena: &mut [u8],
+) -> io::Result<()>
+    ensures ok { OnOk result (AnswersInput (R.remaining reader.old) (R.remaining reader.new) (W.contents writer.old) (W.contents writer.new) session.old table.old arena.old session.new table.new arena.new) }
+    ensures err { OnErr result (StopsInput (R.remaining reader.old) (R.remaining reader.new) (W.contents writer.old) (W.contents writer.new) session.old table.old arena.old) }
+{
+    for _part in 0..u64::MAX {
+        if answer_part(reader, writer, session, table, arena)? == 0 {
+            return Ok(());
+        }
+    }
+    Ok(())
+}
+
+/// Writes what comes at the end.
+fn write_end<W: Write>(
+    writer: &mut W,
+    session: Session,
+    table: &mut [u32],
+    arena: &mut [u8],
+) -> io::Result<()>
+    ensures ok { OnOk result (WritesEnd (W.contents writer.old) (W.contents writer.new) session table.old arena.old) }
+    ensures err { OnErr result (StopsEnd (W.contents writer.old) (W.contents writer.new) session table.old arena.old) }
+{
+    let mut out = [0; 25664];
+    match script::finish(session, table, arena, &mut out) {
+        Written::Bytes(n) => write_out(writer, &out[..n]),
+        Written::NoRoom => unreachable!(),
     }
 }
 
-// After a failure the rest of the output would be no answer to the input, so nothing more is written but a word to standard error.
-fn main() {
-    let mut table = [0u32; 2048];
-    let mut arena = [0u8; 65536];
-    let progress = answer_input(script::start(), &mut table, &mut arena);
-    let session = progress.session;
-    if progress.ok && write_end(session, &mut table, &mut arena) {
-        return;
-    }
-    io::write_all(2, b"heapscript: reading or writing failed\n");
+/// Answers a whole script, with these words and bytes lent. After a failed read or write the rest would be no answer to the input, so nothing more is written.
+fn answer_script<R: Read, W: Write>(
+    reader: &mut R,
+    writer: &mut W,
+    table: &mut [u32],
+    arena: &mut [u8],
+) -> io::Result<()>
+    ensures ok { OnOk result (AnswersScript (R.remaining reader.old) (R.remaining reader.new) (W.contents writer.old) (W.contents writer.new) table.old arena.old) }
+    ensures err { OnErr result (StopsScript (R.remaining reader.old) (W.contents writer.old) (W.contents writer.new) table.old arena.old) }
+{
+    let mut session = script::start();
+    answer_input(reader, writer, &mut session, table, arena)?;
+    write_end(writer, session, table, arena)
+}
+
+fn main(rt: HostRuntime) -> io::Result<()> {
+    let mut table = [0; 2048];
+    let mut arena = [0; 65536];
+    answer_script(&mut rt.stdin(), &mut rt.stdout(), &mut table, &mut arena)
 }

@@ -1,0 +1,78 @@
+-- What is written for parts that are fed one after the other, with whatever comes after them; and beginnings of it.
+-- Assumes nothing.
+use Rattle.std.proofs.Common.{◌≡◌, ℕ, List, [], ◌∷◌, ◌++◌, take, sym, ap, ◌∙◌, append_assoc, append-nil}
+use Rattle.script.specs.Text.{ended, unended}
+use Rattle.script.specs.Machine.{Machine, machine, started}
+use Rattle.script.specs.Session.{output, joined, answers_to, after_lines, most_held, held, pieces_with}
+use Rattle.script.specs.Promises.{fed_pieces, fed_text}
+use Rattle.script.specs.Performed.{Feeds}
+use Rattle.script.proofs.Lists.{front_text}
+use Rattle.script.proofs.Parts.{in_parts, in_parts_lem}
+use Rattle.script.specs.declared.Session.{Session}
+use Rattle.heapscript.specs.Steps.{Begins}
+
+-- A part that is fed: its answers, the machine afterwards, and what is held.
+module _ (s : Session) (words bytes part : List ℕ) (f : Feeds s words bytes part) where
+  same_pieces : fed_pieces s words bytes f.input f.room ≡ pieces_with (held s) part
+  same_pieces = rw (f.takes, f.done.taken)
+
+  pub fed_answers : take f.out.written f.room_after ≡ answers_to (machine s.script words bytes) (ended (pieces_with (held s) part))
+  fed_answers =
+      front_text (fed_text s words bytes f.input f.room) f.room f.room_after f.out.written f.done.written f.done.buffer
+      ∙ ap (λ (ls : List (List ℕ)). answers_to (machine s.script words bytes) (ended ls)) same_pieces
+
+  pub fed_leaves : machine f.out.session.script f.words_after f.bytes_after ≡ after_lines (machine s.script words bytes) (ended (pieces_with (held s) part))
+  fed_leaves =
+      f.done.leaves
+      ∙ ap (λ (ls : List (List ℕ)). after_lines (machine s.script words bytes) (ended ls)) same_pieces
+
+  pub fed_holds : held f.out.session ≡ take most_held (unended (pieces_with (held s) part))
+  fed_holds =
+      front_text (take most_held (unended (fed_pieces s words bytes f.input f.room))) s.line f.out.session.line f.out.session.count f.done.count f.done.line
+      ∙ ap (λ (ls : List (List ℕ)). take most_held (unended ls)) same_pieces
+
+  -- What is written for the part and others is what was put for it, and then what is written for the others.
+  pub fed_goes : (parts : List (List ℕ))
+      → in_parts (machine s.script words bytes) (held s) (part ∷ parts) ≡ take f.out.written f.room_after ++ in_parts (machine f.out.session.script f.words_after f.bytes_after) (held f.out.session) parts
+  fed_goes parts = rw (fed_answers, fed_leaves, fed_holds)
+
+-- With whatever comes after the input so far, the output is the text so far, and then what is written for the rest.
+pub record Going (s : Session) (words bytes input text : List ℕ) (s' : Session) (words' bytes' : List ℕ) : Type 0 where
+  pub goes : s.script ≡ started → s.count ≡ 0 → (parts : List (List ℕ))
+      → output words bytes (input ++ joined parts) ≡ text ++ in_parts (machine s'.script words' bytes') (held s') parts
+
+-- Before any part.
+pub Going-none : (s : Session) (words bytes : List ℕ) → Going s words bytes [] [] s words bytes
+Going-none s words bytes =
+    record { goes = λ e z parts. rw (e, z) (sym (in_parts_lem words bytes parts)) }
+
+module _ (s : Session) (words bytes input text : List ℕ) (s' : Session) (words' bytes' : List ℕ) (before : Going s words bytes input text s' words' bytes') (part : List ℕ) where
+  -- One more part.
+  pub Going-more : (f : Feeds s' words' bytes' part) → Going s words bytes (input ++ part) (text ++ take f.out.written f.room_after) f.out.session f.words_after f.bytes_after
+  Going-more f =
+      record {
+        goes = λ e z parts.
+            ap (λ x. output words bytes x) (append_assoc input part (joined parts))
+            ∙ before.goes e z (part ∷ parts)
+            ∙ ap (λ x. text ++ x) (fed_goes s' words' bytes' part f parts)
+            ∙ sym (append_assoc text (take f.out.written f.room_after) _);
+      }
+
+  -- A beginning of the part's answers.
+  pub Going-stops : (t : List ℕ) → Begins t (answers_to (machine s'.script words' bytes') (ended (pieces_with (held s') part))) → s.script ≡ started → s.count ≡ 0
+      → (rest : List ℕ) → Begins (text ++ t) (output words bytes ((input ++ part) ++ rest))
+  Going-stops t b e z rest =
+      let m : Machine = after_lines (machine s'.script words' bytes') (ended (pieces_with (held s') part)) in
+      let p : List ℕ = take most_held (unended (pieces_with (held s') part)) in
+      let others : List ℕ = in_parts m p (rest ∷ []) in
+      let same : (input ++ part) ++ rest ≡ input ++ (part ++ (rest ++ [])) =
+      append_assoc input part rest ∙ ap (λ x. input ++ (part ++ x)) (sym (append-nil rest)) in
+      let cut : text ++ ((t ++ b.more) ++ others) ≡ (text ++ t) ++ (b.more ++ others) = simp append_assoc in
+      record {
+        more = b.more ++ others;
+        is =
+            ap (λ x. output words bytes x) same
+            ∙ before.goes e z (part ∷ rest ∷ [])
+            ∙ ap (λ x. text ++ (x ++ others)) b.is
+            ∙ cut;
+      }
