@@ -24,12 +24,12 @@ use Rattle.model.specs.declared.Refusal.{Refusal}
 use Rattle.model.specs.declared.Refusal.TheVariants as refusal
 
 -- Document 01's 9: the offset is not the first byte of a live block. (`InsideBlock` is the refusal with this number.)
-abbrev pub not_aBlock : List Segment → ℕ → Reason Refusal
-not_aBlock bs x = (is_none (block_at x bs), refusal.InsideBlock)
+abbrev pub not_a_block : List Segment → ℕ → Reason Refusal
+not_a_block bs x = (is_none (block_at x bs), refusal.InsideBlock)
 
 -- For an owner's offset document 01 has 9, 10.
 abbrev pub offset_order01 : State → ℕ → ℕ → Order Refusal
-offset_order01 h o x = not_aBlock h.blocks x ∷ other_owner h.blocks o x ∷ []
+offset_order01 h o x = not_a_block h.blocks x ∷ other_owner h.blocks o x ∷ []
 
 module _ (is_valid : Bool) (c : Config) (h : State) where
   -- Document 01's order for a return: 1, 11, 2, 9, 10.

@@ -292,7 +292,7 @@ fn alloc_with_holes(table: &mut [u32; 32], arena: &mut [u8; 256]) -> Heap {
 }
 
 // Each of the two refused gets a byte less in its place.
-fn no_place_lem() {
+fn no_place() {
     io::write_all(
         1,
         b"\nno place though the free total would do, and nothing changes\n",
@@ -592,7 +592,7 @@ fn main() {
     longer_in_place();
     moves();
     arena_end();
-    no_place_lem();
+    no_place();
     returns();
     refusals();
     rows_afterwards();
