@@ -33,11 +33,12 @@ pub record StopsPart (unread still_unread was_held holds : Option (List ℕ)) (s
   pub written : Appends was_held holds text
   pub begins : Begins text (answers_to (machine s.script words bytes) (ended (pieces_with (held s) part)))
 
--- An input was read and fed, part by part, and what that put was written: with whatever comes after it, the text is the text for all.
+-- An input was fed, part by part, and a text was put for it: with whatever is fed after it, all that is put is that text and then what is put for the rest.
 pub record FeedsOn (s : Session) (words bytes input text : List ℕ) (s_after : Session) (words_after bytes_after : List ℕ) : Type 0 where
   pub goes_on : (parts : List (List ℕ)) (rest : List ℕ) → Performed s_after words_after bytes_after parts rest
       → (all : List (List ℕ)) × (joined all ≡ input ++ joined parts) × Performed s words bytes all (text ++ rest)
 
+-- An input was read, fed, and what that put was written: all of the input, unless it has 2^64 - 1 bytes or more.
 pub record AnswersInput (unread still_unread held holds : Option (List ℕ)) (s : Session) (words bytes : List ℕ) (s_after : Session) (words_after bytes_after : List ℕ) : Type 0 where
   pub input : List ℕ
   pub text : List ℕ
