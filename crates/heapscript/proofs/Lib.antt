@@ -1,5 +1,4 @@
 -- The lemmas of the program's loop.
 -- Assumes nothing.
-pub mod Known
 pub mod Going
 pub mod Steps

@@ -1,7 +1,8 @@
 -- Parts that are fed one after the other, and the end of the script.
 -- Assumes nothing.
-use Rattle.std.proofs.Common.{◌≡◌, ℕ, ◌+◌, ◌-◌, ◌^◌, ◌<◌, ◌≤◌, List, [], ◌∷◌, ◌++◌, length, take, Option, refl, sym, ap, ◌∙◌, append_assoc, append-nil, length-append, subst, arith, drop, Some, None, IfSome}
+use Rattle.std.proofs.Common.{◌≡◌, ℕ, ◌+◌, ◌-◌, ◌^◌, ◌<◌, ◌≤◌, List, [], ◌∷◌, ◌++◌, length, take, Option, refl, sym, ap, ◌∙◌, append_assoc, append-nil, length-append, subst, arith, drop, Some, None, IfSome, Result, Ok, Err, OnErr}
 use Rattle.std.proofs.lemmas.List.{take-append-drop}
+use Rattle.std.proofs.KnownBytes.{Consumes-nil, Appends-nil, Consumes-kept, Consumes-trans, Appends-trans}
 use Rattle.std.specs.Io.KnownBytes.{Keeps, Consumes, Appends, IsAtEnd}
 use Rattle.script.specs.Machine.{started}
 use Rattle.script.specs.Session.{output, joined}
@@ -11,7 +12,11 @@ use Rattle.script.specs.declared.Session.{Session}
 use Rattle.heapscript.specs.Steps.{Begins, AnswersPart, StopsPart, FeedsOn, AnswersInput, StopsInput, WritesEnd, StopsEnd}
 use Rattle.heapscript.specs.Whole.{AnswersScript, StopsScript}
 use Rattle.heapscript.proofs.Going.{fed_answers, Going, Going-none, Going-more, Going-stops}
-use Rattle.heapscript.proofs.Known.{Consumes-none, Consumes-kept, Appends-none, Consumes-more, Appends-more}
+
+-- A fact holds where there is an error, if it does anyhow.
+pub OnErr-anyhow : {A E P : Type 0} (r : Result A E) → P → OnErr r P
+OnErr-anyhow (Ok a) p = tt
+OnErr-anyhow (Err e) p = p
 
 -- Before any part nothing is fed.
 pub FeedsOn-none : (s : Session) (words bytes : List ℕ) → FeedsOn s words bytes [] [] s words bytes
@@ -34,8 +39,8 @@ StopsPart-read u u' h s w b kept =
     record {
       part = [];
       text = [];
-      read = Consumes-kept u u' kept;
-      written = Appends-none h;
+      read = Consumes-kept u u u' [] (Consumes-nil u) kept;
+      written = Appends-nil h;
       begins = record { more = _; is = refl };
     }
 
@@ -68,10 +73,10 @@ SoFar-none unread held s words bytes =
     record {
       input = [];
       text = [];
-      read = Consumes-none unread;
+      read = Consumes-nil unread;
       fed = FeedsOn-none s words bytes;
       going = Going-none s words bytes;
-      written = Appends-none held;
+      written = Appends-nil held;
       size = omega arith;
     }
 
@@ -89,12 +94,12 @@ module _ (u₀ u u' h₀ h h' : Option (List ℕ)) (s₀ : Session) (w₀ b₀ :
       record {
         input = before.input ++ now.part;
         text = before.text ++ take now.fed.out.written now.fed.room_after;
-        read = Consumes-more u₀ u u' before.input now.part before.read now.read;
+        read = Consumes-trans u₀ u u' before.input now.part before.read now.read;
         fed = more;
         going =
             rw (now.session, now.table, now.arena)
             (Going-more s₀ w₀ b₀ before.input before.text s w b before.going now.part now.fed);
-        written = Appends-more h₀ h h' before.text (take now.fed.out.written now.fed.room_after) before.written now.written;
+        written = Appends-trans h₀ h h' before.text (take now.fed.out.written now.fed.room_after) before.written now.written;
         size = simp length-append (omega (arith, before.size, now.size, one));
       }
 
@@ -104,10 +109,10 @@ module _ (u₀ u u' h₀ h h' : Option (List ℕ)) (s₀ : Session) (w₀ b₀ :
       record {
         input = before.input ++ now.part;
         text = before.text ++ take now.fed.out.written now.fed.room_after;
-        read = Consumes-more u₀ u u' before.input now.part before.read now.read;
+        read = Consumes-trans u₀ u u' before.input now.part before.read now.read;
         whole = λ _. now.end none;
         fed = more;
-        written = Appends-more h₀ h h' before.text (take now.fed.out.written now.fed.room_after) before.written now.written;
+        written = Appends-trans h₀ h h' before.text (take now.fed.out.written now.fed.room_after) before.written now.written;
       }
 
 -- A part after which reading or writing failed.
@@ -117,8 +122,8 @@ StopsInput-end u₀ u u' h₀ h h' s₀ w₀ b₀ s w b k before now =
     record {
       input = before.input ++ now.part;
       text = before.text ++ now.text;
-      read = Consumes-more u₀ u u' before.input now.part before.read now.read;
-      written = Appends-more h₀ h h' before.text now.text before.written now.written;
+      read = Consumes-trans u₀ u u' before.input now.part before.read now.read;
+      written = Appends-trans h₀ h h' before.text now.text before.written now.written;
       begins = Going-stops s₀ w₀ b₀ before.input before.text s w b before.going now.part now.text now.begins;
     }
 
@@ -141,7 +146,7 @@ AnswersScript-end u u' h₀ h h' s₀ w₀ b₀ s w b new none body end =
       read = body.read;
       written =
           subst (λ x. Appends h₀ h' x) (input_answered s₀ w₀ b₀ s w b body.input body.text new none body.fed end.finished)
-          (Appends-more h₀ h h' body.text text body.written end.written);
+          (Appends-trans h₀ h h' body.text text body.written end.written);
       whole = body.whole;
     }
 
@@ -185,6 +190,6 @@ StopsScript-end u u' h₀ h h' s₀ w₀ b₀ s w b new none body end =
     ap (λ x. body.text ++ x) (sym (take-append-drop end.count text)) ∙ sym (append_assoc body.text cut (drop end.count text)) in
     record {
       text = body.text ++ cut;
-      written = Appends-more h₀ h h' body.text cut body.written end.written;
+      written = Appends-trans h₀ h h' body.text cut body.written end.written;
       begins = at_end u u' w₀ b₀ body.input (body.text ++ cut) body.read body.whole (record { more = drop end.count text; is = same ∙ parts });
     }

@@ -1,8 +1,7 @@
 -- Each part goes on with what was read and written so far.
 -- Assumes nothing.
 use Rattle.std.proofs.Common.{arith}
-use Rattle.heapscript.proofs.Known.{OnErr-anyhow}
-use Rattle.heapscript.proofs.Steps.{SoFar-none, SoFar-more, AnswersInput-end, StopsInput-end}
+use Rattle.heapscript.proofs.Steps.{OnErr-anyhow, SoFar-none, SoFar-more, AnswersInput-end, StopsInput-end}
 use Rattle.heapscript.proofs.answer_input.Goals as goal
 
 pub returns-then-branch-eq0-clause-ok : goal.returns-then-branch-eq0-clause-ok

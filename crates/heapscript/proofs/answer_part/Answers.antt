@@ -2,8 +2,7 @@
 -- Assumes nothing.
 use Rattle.std.proofs.Common.{take, refl, arith}
 use Rattle.std.proofs.lemmas.Grind.{common_steps}
-use Rattle.heapscript.proofs.Known.{OnErr-anyhow}
-use Rattle.heapscript.proofs.Steps.{StopsPart-read, StopsPart-write}
+use Rattle.heapscript.proofs.Steps.{OnErr-anyhow, StopsPart-read, StopsPart-write}
 use Rattle.heapscript.proofs.answer_part.Goals as goal
 
 pub returns-clause-ok : goal.returns-clause-ok

@@ -1,8 +1,7 @@
 -- The input was fed from the session's start on, and then finished.
 -- Assumes nothing.
 use Rattle.std.proofs.lemmas.Result.{on_ok_weaker, on_err_weaker}
-use Rattle.heapscript.proofs.Known.{OnErr-anyhow}
-use Rattle.heapscript.proofs.Steps.{AnswersScript-end, StopsScript-input, StopsScript-end}
+use Rattle.heapscript.proofs.Steps.{OnErr-anyhow, AnswersScript-end, StopsScript-input, StopsScript-end}
 use Rattle.heapscript.proofs.answer_script.Goals as goal
 
 pub returns-clause-ok : goal.returns-clause-ok
