@@ -2,13 +2,16 @@
 -- Assumes nothing.
 use Rattle.std.proofs.Common.{◌≡◌, ℕ, ◌+◌, ◌-◌, ◌^◌, ◌<◌, ◌≤◌, List, [], ◌∷◌, ◌++◌, length, take, Option, refl, sym, ap, ◌∙◌, append_assoc, append-nil, length-append, subst, arith, drop, Some, None, IfSome, Result, Ok, Err, OnErr}
 use Rattle.std.proofs.lemmas.List.{take-append-drop}
+use Rattle.std.proofs.Math.Seq.{take_all}
 use Rattle.std.proofs.KnownBytes.{Consumes-nil, Appends-nil, Consumes-kept, Consumes-trans, Appends-trans}
 use Rattle.std.specs.Io.KnownBytes.{Keeps, Consumes, Appends, IsAtEnd}
 use Rattle.script.specs.Machine.{started}
 use Rattle.script.specs.Session.{output, joined}
+use Rattle.script.specs.Promises.{FeedDone}
 use Rattle.script.specs.Performed.{Feeds, Finishes}
 use Rattle.script.proofs.Performed.{no_line_lost}
 use Rattle.script.specs.declared.Session.{Session}
+use Rattle.script.specs.declared.Fed.{Fed}
 use Rattle.heapscript.specs.Steps.{Begins, AnswersPart, StopsPart, FeedsOn, AnswersInput, StopsInput, WritesEnd, StopsEnd}
 use Rattle.heapscript.specs.Whole.{AnswersScript, StopsScript}
 use Rattle.heapscript.proofs.Going.{fed_answers, Going, Going-none, Going-more, Going-stops}
@@ -31,6 +34,24 @@ FeedsOn-more s words bytes input text s₁ words₁ bytes₁ part on f =
       goes_on = λ parts rest p.
           let w = on.goes_on (part ∷ parts) (take f.out.written f.room_after ++ rest) (f, rest, refl, p) in
           (w.0, w.1 ∙ sym (append_assoc input part (joined parts)), rw append_assoc w.2);
+    }
+
+-- What is taken of a part, where all of it is, is the part.
+pub taken_whole : (part : List ℕ) (n : ℕ) → n ≡ length part → part ≡ take n part
+taken_whole part n e = rw (e, take_all (length part) part (omega arith)) refl
+
+-- A part of which all is taken is fed.
+abbrev pub Feeds-whole : (s : Session) (w b part room : List ℕ) (out : Fed) (w' b' room' : List ℕ) → (out.taken ≡ length part) × FeedDone s w b part room out w' b' room' → Feeds s w b part
+Feeds-whole s w b part room out w' b' room' fed =
+    record {
+      input = part;
+      room = room;
+      out = out;
+      takes = taken_whole part out.taken fed.0;
+      words_after = w';
+      bytes_after = b';
+      room_after = room';
+      done = fed.1;
     }
 
 -- Reading failed.

@@ -2,7 +2,7 @@
 -- Assumes nothing.
 use Rattle.std.proofs.Common.{take, refl, arith}
 use Rattle.std.proofs.lemmas.Grind.{common_steps}
-use Rattle.heapscript.proofs.Steps.{OnErr-anyhow, StopsPart-read, StopsPart-write}
+use Rattle.heapscript.proofs.Steps.{OnErr-anyhow, Feeds-whole, StopsPart-read, StopsPart-write}
 use Rattle.heapscript.proofs.answer_part.Goals as goal
 
 pub returns-clause-ok : goal.returns-clause-ok
@@ -12,16 +12,7 @@ returns-clause-ok g c =
       size = grind (arith, common_steps);
       read = c.in_ok-n.ensures.bytes.0;
       end = λ none. c.in_ok-n.ensures.bytes.1 none (omega arith);
-      fed = record {
-        input = take c.in_ok-n.n c.read.new.buf;
-        room = _;
-        out = c.answer_whole-fed.result;
-        takes = grind (arith, common_steps);
-        words_after = c.answer_whole-fed.new.table;
-        bytes_after = c.answer_whole-fed.new.arena;
-        room_after = c.answer_whole-fed.new.out;
-        done = c.answer_whole-fed.ensures.1;
-      };
+      fed = Feeds-whole _ _ _ _ _ _ _ _ _ c.answer_whole-fed.ensures;
       session = refl;
       table = refl;
       arena = refl;
@@ -35,15 +26,5 @@ returns-in_err-n-clause-err g c =
 pub returns-in_err-write_out-clause-err : goal.returns-in_err-write_out-clause-err
 returns-in_err-write_out-clause-err g c =
     OnErr-anyhow c.from_residual-in_err-write_out.result
-    (StopsPart-write _ _ _ _ _ _ _ (take c.in_ok-n.n c.read.new.buf)
-    (record {
-      input = take c.in_ok-n.n c.read.new.buf;
-      room = _;
-      out = c.answer_whole-fed.result;
-      takes = grind (arith, common_steps);
-      words_after = c.answer_whole-fed.new.table;
-      bytes_after = c.answer_whole-fed.new.arena;
-      room_after = c.answer_whole-fed.new.out;
-      done = c.answer_whole-fed.ensures.1;
-    })
-    c.in_err-write_out.ensures.err.0 c.in_ok-n.ensures.bytes.0 c.in_err-write_out.ensures.err.1)
+    (StopsPart-write _ _ _ _ _ _ _ (take c.in_ok-n.n c.read.new.buf) (Feeds-whole _ _ _ _ _ _ _ _ _ c.answer_whole-fed.ensures) c.in_err-write_out.ensures.err.0 c.in_ok-n.ensures.bytes.0
+    c.in_err-write_out.ensures.err.1)
