@@ -3,7 +3,7 @@
 use mathlib.Core.Path.{◌≡◌, refl, sym, ap, ◌∙◌, subst}
 use mathlib.Core.Bool.{Bool, true, false}
 use mathlib.Core.List.{List, [], ◌∷◌}
-use mathlib.Core.Option.{some}
+use Rattle.std.specs.Prelude.{Some}
 use Prim.Native.Nat.{ℕ, ◌+◌, ◌≤◌, ◌<◌}
 use native.Mathlib.Omega.{arith}
 use lib.Dec.{leb, ltb, eqb}
@@ -44,12 +44,12 @@ use Rattle.model.specs.declared.Freed.TheVariants as freed
 use Rattle.model.specs.declared.Resized.TheVariants as resized
 
 -- the block at x, if it is o's and a test holds of it, is among o's blocks one of which the test holds
-owned_first : (p : Segment → Bool) (o x : ℕ) (bs : List Segment) (b : Segment) → block_at x bs ≡ some b → b.owner ≡ o → p b ≡ true
+owned_first : (p : Segment → Bool) (o x : ℕ) (bs : List Segment) (b : Segment) → block_at x bs ≡ Some b → b.owner ≡ o → p b ≡ true
     → is_none (first_of p (owned_by o bs)) ≡ false
 owned_first p o x [] b e mine t = let z : ◌≡◌ {A = ℕ} 0 1 = cc in absurd (omega arith)
 owned_first p o x (a ∷ bs) b e mine t =
     split (eqb (offset a) x)
-    (λ q. let e' : some a ≡ some b = rw q at e in
+    (λ q. let e' : Some a ≡ Some b = rw q at e in
     let z : a ≡ b = cc in
     let u : p a ≡ true = subst (λ (d : Segment). p d ≡ true) (sym z) t in
     let w : a.owner ≡ o = ap (λ (d : Segment). d.owner) z ∙ mine in
@@ -58,22 +58,22 @@ owned_first p o x (a ∷ bs) b e mine t =
     split (eqb a.owner o) (λ w. rw w (split (p a) (λ u. rw u) (λ u. rw u r))) (λ w. rw w r))
 
 -- the first of those picked is the first of which both tests hold
-first_only : (p q : Segment → Bool) (bs : List Segment) (b : Segment) → first_of q (only p bs) ≡ some b → first_of (λ (d : Segment). both (p d) (q d)) bs ≡ some b
+first_only : (p q : Segment → Bool) (bs : List Segment) (b : Segment) → first_of q (only p bs) ≡ Some b → first_of (λ (d : Segment). both (p d) (q d)) bs ≡ Some b
 first_only p q [] b e = e
 first_only p q (a ∷ bs) b e =
     split (p a)
-    (λ u. let e' : first_of q (a ∷ only p bs) ≡ some b = rw u at e in split (q a) (λ w. rw (u, w) (rw w at e')) (λ w. rw (u, w) (first_only p q bs b (rw w at e'))))
+    (λ u. let e' : first_of q (a ∷ only p bs) ≡ Some b = rw u at e in split (q a) (λ w. rw (u, w) (rw w at e')) (λ w. rw (u, w) (first_only p q bs b (rw w at e'))))
     (λ u. rw u (first_only p q bs b (rw u at e)))
 
 -- a live block is at its offset
-first_at : (c : Config) (p : Segment → Bool) (s : ℕ) (bs : List Segment) (b : Segment) → Ordered c s bs → first_of p bs ≡ some b → block_at (offset b) bs ≡ some b
+first_at : (c : Config) (p : Segment → Bool) (s : ℕ) (bs : List Segment) (b : Segment) → Ordered c s bs → first_of p bs ≡ Some b → block_at (offset b) bs ≡ Some b
 first_at c p s [] b o e = let z : ◌≡◌ {A = ℕ} 0 1 = cc in absurd (omega arith)
 first_at c p s (a ∷ bs) b o e =
     split (p a)
-    (λ u. let e' : some a ≡ some b = rw u at e in
+    (λ u. let e' : Some a ≡ Some b = rw u at e in
     let z : a ≡ b = cc in
     rw (eq-eqb (offset a) (offset b) (ap offset z)) e')
-    (λ u. let r : block_at (offset b) bs ≡ some b = first_at c p (a.start + a.length) bs b o.2 (rw u at e) in
+    (λ u. let r : block_at (offset b) bs ≡ Some b = first_at c p (a.start + a.length) bs b o.2 (rw u at e) in
     let f : Begins c (a.start + a.length) (offset b) bs b = begins c (a.start + a.length) (offset b) bs b o.2 r in
     rw (ne_eqb (offset a) (offset b) (λ z. absurd (omega (arith, f.from, long c a o.1)))) r)
 
@@ -114,7 +114,7 @@ module _ (c : Config) where
   other_alloc h arena o n a q g = rw (lt-ltb 0 c.guards g, q)
 
   -- a free
-  other_free : (h : State) (arena : List ℕ) (o x : ℕ) → has_recorded_length c arena ≡ false → first_reason (free_order true c h arena o x) ≡ some refusal.ArenaLength
+  other_free : (h : State) (arena : List ℕ) (o x : ℕ) → has_recorded_length c arena ≡ false → first_reason (free_order true c h arena o x) ≡ Some refusal.ArenaLength
   unfolding free_order
   other_free h arena o x q = rw q
 

@@ -3,7 +3,7 @@
 use mathlib.Core.Path.{◌≡◌, refl, ap, sym, ◌∙◌, subst}
 use mathlib.Core.Bool.{Bool, true, false, not}
 use mathlib.Core.List.{List, [], ◌∷◌}
-use mathlib.Core.Option.{none, some}
+use Rattle.std.specs.Prelude.{None, Some}
 use Prim.Native.Nat.{ℕ, ◌+◌, ◌*◌, ◌/◌, ◌%◌, ◌≤◌, ◌<◌}
 use native.Mathlib.Omega.{arith}
 use lib.Dec.{eqb}
@@ -78,8 +78,8 @@ module _ (c : Config) (i : ℕ) where
   nothing_lent es = every (λ (e : Entry). not (is_lent e.0 e.1)) es
 
   -- a call that is not lent a granule that no live block has leaves it so
-  alloc_stays : (h : State) (arena : List ℕ) (o n a : ℕ) → lent_by o n (rules.alloc true c h arena o n a) ≡ false → block_over i h.blocks ≡ none
-      → block_over i (rules.after_alloc true c h arena o n a).blocks ≡ none
+  alloc_stays : (h : State) (arena : List ℕ) (o n a : ℕ) → lent_by o n (rules.alloc true c h arena o n a) ≡ false → block_over i h.blocks ≡ None
+      → block_over i (rules.after_alloc true c h arena o n a).blocks ≡ None
   alloc_stays h arena o n a l e =
       split_option (first_reason (alloc_order true c h arena o n a))
       (λ q. let r : Allocated c h o n a = allocated c h true arena o n a q in
@@ -88,9 +88,9 @@ module _ (c : Config) (i : ℕ) where
       (λ r q. rw q e)
 
   -- and so does a resize that is not refused, where no other block has it
-  resize_stays : (h : State) (arena : List ℕ) (o x n : ℕ) → first_reason (realloc_order true c h arena o x n) ≡ none
-      → left_by o n (rules.realloc true c h arena o x n) ≡ false → block_over i (without x h.blocks) ≡ none
-      → block_over i (rules.after_realloc true c h arena o x n).blocks ≡ none
+  resize_stays : (h : State) (arena : List ℕ) (o x n : ℕ) → first_reason (realloc_order true c h arena o x n) ≡ None
+      → left_by o n (rules.realloc true c h arena o x n) ≡ false → block_over i (without x h.blocks) ≡ None
+      → block_over i (rules.after_realloc true c h arena o x n).blocks ≡ None
   resize_stays h arena o x n q l e =
       split (eqb n 0)
       (λ z. rw (q, z) e)
@@ -98,7 +98,7 @@ module _ (c : Config) (i : ℕ) where
       let w : (16 * r.place.start) / 16 ≡ r.place.start = omega arith in
       rw (q, z, r.place.fits) (over_insert i (block c o n r.place.start) (without x h.blocks) (rw (q, z, r.place.fits, w) at l) e))
 
-  stays : (h : State) (k : Call) → is_lent k (by_rules c h k).0 ≡ false → block_over i h.blocks ≡ none → block_over i (by_rules c h k).1.blocks ≡ none
+  stays : (h : State) (k : Call) → is_lent k (by_rules c h k).0 ≡ false → block_over i h.blocks ≡ None → block_over i (by_rules c h k).1.blocks ≡ None
   stays h (alloc arena o n) l e = alloc_stays h arena o n 16 l e
   stays h (alloc_aligned arena o n a) l e = alloc_stays h arena o n a l e
   stays h (return arena o x) l e =
@@ -110,8 +110,8 @@ module _ (c : Config) (i : ℕ) where
   stays h (holding o) l e = e
 
   -- and so does a list
-  stays_free : (h : State) (ls : List Call) → nothing_lent (history (by_rules c) h ls) ≡ true → block_over i h.blocks ≡ none
-      → block_over i (after (by_rules c) h ls).blocks ≡ none
+  stays_free : (h : State) (ls : List Call) → nothing_lent (history (by_rules c) h ls) ≡ true → block_over i h.blocks ≡ None
+      → block_over i (after (by_rules c) h ls).blocks ≡ None
   stays_free h [] n e = e
   stays_free h (k ∷ ks) n e =
       let es : List Entry = history (by_rules c) (by_rules c h k).1 ks in
@@ -130,14 +130,14 @@ Gets17 c s ks y =
 -- of a heap that is written down, in a state as every call leaves it
 module _ (c : Config) (ranged : in_range c ≡ true) (h : State) (k : Kept c h) where
   -- a granule of the arena that no live block has
-  free_17 : (ks : List Call) (y : ℕ) → y % 16 ≡ 0 → y / 16 < c.granules → block_over (y / 16) h.blocks ≡ none → Gets17 c (store c h) ks y
+  free_17 : (ks : List Call) (y : ℕ) → y % 16 ≡ 0 → y / 16 < c.granules → block_over (y / 16) h.blocks ≡ None → Gets17 c (store c h) ks y
   free_17 ks y aligned inside e n arena o whole owner =
       let g : State = after (by_rules c) h ks in
       let gk : Kept c g = kept_after c h ks k in
-      let over : block_over (y / 16) g.blocks ≡ none = stays_free c (y / 16) h ks (ap (λ (es : List Entry). nothing_lent c (y / 16) es) (sym (history_same c ranged h ks k)) ∙ n) e in
-      let why : first_reason (block_order c g o y) ≡ some refusal.FreeMemory = free_memory_lem c g o y owner (y / 16) (omega arith) inside over in
-      let f : first_reason (free_order true c g arena o y) ≡ some refusal.FreeMemory = block_refuses c g arena o y whole refusal.FreeMemory why in
-      let b : first_reason (block_size_order true c g o y) ≡ some refusal.FreeMemory = size_asks c g o y ∙ why in (
+      let over : block_over (y / 16) g.blocks ≡ None = stays_free c (y / 16) h ks (ap (λ (es : List Entry). nothing_lent c (y / 16) es) (sym (history_same c ranged h ks k)) ∙ n) e in
+      let why : first_reason (block_order c g o y) ≡ Some refusal.FreeMemory = free_memory_lem c g o y owner (y / 16) (omega arith) inside over in
+      let f : first_reason (free_order true c g arena o y) ≡ Some refusal.FreeMemory = block_refuses c g arena o y whole refusal.FreeMemory why in
+      let b : first_reason (block_size_order true c g o y) ≡ Some refusal.FreeMemory = size_asks c g o y ∙ why in (
         ap (λ (s : Stored). free s arena o y) (stored_after_lem c ranged h ks k) ∙ answers_same c g gk ranged (return arena o y) ∙ rw f,
         ap (λ (s : Stored). heap_calls.block_size s o y) (stored_after_lem c ranged h ks k) ∙ answers_same c g gk ranged (block_size o y) ∙ rw b,
         λ n. ap (λ (s : Stored). realloc s arena o y n) (stored_after_lem c ranged h ks k) ∙ answers_same c g gk ranged (resize arena o y n) ∙ rw (free_refuses true c g arena o y n refusal.FreeMemory f),
@@ -146,7 +146,7 @@ module _ (c : Config) (ranged : in_range c ≡ true) (h : State) (k : Kept c h) 
 -- the block that is freed there
 module _ (c : Config) (ranged : in_range c ≡ true) (h : State) (k : Kept c h) (arena : List ℕ) (o x held : ℕ) (e : rules.free true c h arena o x ≡ freed.Bytes held) where
   abbrev Found : Type 0
-  Found = (r : Released true c h arena o x) × (first_reason (free_order true c h arena o x) ≡ none) × (held ≡ bytes r.block)
+  Found = (r : Released true c h arena o x) × (first_reason (free_order true c h arena o x) ≡ None) × (held ≡ bytes r.block)
 
   found : Found
   found = answered true c h arena o x held e
@@ -161,24 +161,24 @@ module _ (c : Config) (ranged : in_range c ≡ true) (h : State) (k : Kept c h) 
   returned_17 ks y low high aligned =
       let b : Segment = found.0.block in
       let in_block : has_granule (y / 16) b ≡ true = in_granule (y / 16) b (omega (arith, at.first)) (omega (arith, at.first, found.2)) in
-      let over : block_over (y / 16) (by_rules c h (return arena o x)).1.blocks ≡ none =
+      let over : block_over (y / 16) (by_rules c h (return arena o x)).1.blocks ≡ None =
       rw found.1 (over_without c 0 x (y / 16) h.blocks b k.ordered found.0.found in_block) in
       free_17 c ranged (by_rules c h (return arena o x)).1 (keep c h k (return arena o x)) ks y aligned (omega (arith, at.first, at.inside, found.2)) over
 
 -- the old place of a block that is resized there
 module _ (c : Config) (ranged : in_range c ≡ true) (h : State) (k : Kept c h) (arena : List ℕ) (o x n y : ℕ) (e : rules.realloc true c h arena o x n ≡ resized.At y) where
-  granted : first_reason (realloc_order true c h arena o x n) ≡ none
+  granted : first_reason (realloc_order true c h arena o x n) ≡ None
   granted =
       split_option (first_reason (realloc_order true c h arena o x n))
       (λ q. q)
       (λ r q. let w : resized.Refused r ≡ resized.At y = rw q at e in let z : ◌≡◌ {A = ℕ} 0 1 = cc in absurd (omega arith))
 
-  resized_17 : (ks : List Call) (b : Segment) → block_at x h.blocks ≡ some b → (z : ℕ) → x ≤ z → z < x + bytes b → z % 16 ≡ 0
+  resized_17 : (ks : List Call) (b : Segment) → block_at x h.blocks ≡ Some b → (z : ℕ) → x ≤ z → z < x + bytes b → z % 16 ≡ 0
       → has_granule (z / 16) (block c o n (y / 16)) ≡ false → Gets17 c (store c (by_rules c h (resize arena o x n)).1) ks z
   resized_17 ks b found z low high aligned clear =
       let at : Begins c 0 x h.blocks b = begins c 0 x h.blocks b k.ordered found in
       let in_block : has_granule (z / 16) b ≡ true = in_granule (z / 16) b (omega (arith, at.first)) (omega (arith, at.first)) in
-      let over : block_over (z / 16) (by_rules c h (resize arena o x n)).1.blocks ≡ none =
+      let over : block_over (z / 16) (by_rules c h (resize arena o x n)).1.blocks ≡ None =
       resize_stays c (z / 16) h arena o x n granted (ap (left_by c (z / 16) o n) e ∙ clear) (over_without c 0 x (z / 16) h.blocks b k.ordered found in_block) in
       free_17 c ranged (by_rules c h (resize arena o x n)).1 (keep c h k (resize arena o x n)) ks z aligned (omega (arith, at.first, at.inside)) over
 
@@ -206,7 +206,7 @@ module _ (arena words : List ℕ) (p : Plan) (done : init arena words p ≡ made
 
   -- a multiple of 16 in the arena whose granule no live block has gets 17 for as long as nothing is lent over it.
   pub free_gets_17 : (since : List Call) (y : ℕ) → y % 16 ≡ 0 → y / 16 < (init_config arena words p).granules
-      → block_over (y / 16) (state_after (init_config arena words p) before).blocks ≡ none
+      → block_over (y / 16) (state_after (init_config arena words p) before).blocks ≡ None
       → Gets17 (init_config arena words p) (stored_after (after_init arena words p) before) since y
   free_gets_17 since y aligned inside e = subst (λ (s : Stored). Gets17 c s since y) (sym stored) (free_17 c ranged h kept since y aligned inside e)
 
@@ -230,7 +230,7 @@ module _ (arena words : List ℕ) (p : Plan) (done : init arena words p ≡ made
   -- A resize instead, by o of the block at x to n bytes, answers y, and another list follows: each multiple of 16 in the block's old place that its new place has not,
   -- the tail of a shorter one and all of a moved one, gets 17 for as long as nothing is lent over its granule.
   pub resized_gets_17 : (content : List ℕ) (o x n y : ℕ) → realloc (stored_after (after_init arena words p) before) content o x n ≡ resized.At y → (since : List Call)
-      → (b : Segment) → block_at x (state_after (init_config arena words p) before).blocks ≡ some b
+      → (b : Segment) → block_at x (state_after (init_config arena words p) before).blocks ≡ Some b
       → (z : ℕ) → x ≤ z → z < x + bytes b → z % 16 ≡ 0 → has_granule (z / 16) (block (init_config arena words p) o n (y / 16)) ≡ false
       → Gets17 (init_config arena words p) (after_realloc (stored_after (after_init arena words p) before) content o x n) since z
   resized_gets_17 content o x n y at since b found z low high aligned clear =

@@ -1,7 +1,6 @@
 -- What a task may lean on of guards, after every list of calls: one that nobody writes to is never found broken, and one that is broken is told.
 -- Assumes nothing.
-use Rattle.std.specs.Prelude.{ℕ, ◌+◌, ◌≡◌, Bool, true, not, List, [], ◌∷◌, leb, ltb, get_or}
-use Rattle.std.proofs.Math.Option.{some}
+use Rattle.std.specs.Prelude.{ℕ, ◌+◌, ◌≡◌, Bool, true, not, List, [], ◌∷◌, leb, ltb, get_or, Some}
 use Rattle.model.specs.Choose.{choose, both, first_of, is_none}
 use Rattle.model.specs.Quantities.{Config}
 use Rattle.model.specs.Allocation.{State, fresh, offset, block_at, owned_by}
@@ -113,7 +112,7 @@ module _ (arena words : List ℕ) (p : Plan) (ks : List Call) where
   abbrev pub BrokenIsTold : Type 0
   BrokenIsTold =
       (bytes : List ℕ) → has_recorded_length config bytes ≡ true
-      → (x : ℕ) (b : Segment) → block_at x (state_after config ks).blocks ≡ some b
+      → (x : ℕ) (b : Segment) → block_at x (state_after config ks).blocks ≡ Some b
       → (i : ℕ) → in_guard config i b ≡ true → (get_or bytes i 0 ≡ 0x77 → ⊥)
       → (n : ℕ) → BrokenTold bytes b.owner x n
 

@@ -3,7 +3,7 @@
 use mathlib.Core.Path.{◌≡◌, sym, ◌∙◌}
 use mathlib.Core.Bool.{true, false}
 use mathlib.Core.List.{List}
-use mathlib.Core.Option.{none, some}
+use Rattle.std.specs.Prelude.{None, Some}
 use Prim.Native.Nat.{ℕ, ◌+◌, ◌-◌, ◌*◌, ◌≤◌, ◌<◌}
 use native.Mathlib.Omega.{arith}
 use lib.Dec.{leb, ltb}
@@ -117,8 +117,8 @@ module _ (r : Heap) (ws : List ℕ) (k : Census) (e : Examined r ws k) where
       module _ (n : ℕ) where
         -- 5 and 6 of a request by an owner are told by its quotas and its figures.
         quotas_told : first_reason (quota_order (config_of r) (state_in r ws) o n)
-            ≡ choose (leb (get_or r.block_quotas (o - 1) 0) (get_or k.blocks (o - 1) 0)) (some refusal.BlockQuota)
-            (choose (ltb (get_or r.granule_quotas (o - 1) 0) (get_or k.held (o - 1) 0 + needed (config_of r) n)) (some refusal.GranuleQuota) none)
+            ≡ choose (leb (get_or r.block_quotas (o - 1) 0) (get_or k.blocks (o - 1) 0)) (Some refusal.BlockQuota)
+            (choose (ltb (get_or r.granule_quotas (o - 1) 0) (get_or k.held (o - 1) 0 + needed (config_of r) n)) (Some refusal.GranuleQuota) None)
         quotas_told =
             rw (
               quota_at r.block_quotas o (owner_least o w),
@@ -130,16 +130,16 @@ module _ (r : Heap) (ws : List ℕ) (k : Census) (e : Examined r ws k) where
 
         -- It already has as many blocks as its quota,
         pub blocks_reached : get_or r.block_quotas (o - 1) 0 ≤ get_or k.blocks (o - 1) 0
-            → some refusal.BlockQuota ≡ first_reason (quota_order (config_of r) (state_in r ws) o n)
+            → Some refusal.BlockQuota ≡ first_reason (quota_order (config_of r) (state_in r ws) o n)
         blocks_reached h = sym (rw (quotas_told, le-leb _ _ h))
 
         module _ (few : get_or k.blocks (o - 1) 0 < get_or r.block_quotas (o - 1) 0) where
           -- or the granules are too many,
           pub granules_exceed : get_or r.granule_quotas (o - 1) 0 < get_or k.held (o - 1) 0 + needed (config_of r) n
-              → some refusal.GranuleQuota ≡ first_reason (quota_order (config_of r) (state_in r ws) o n)
+              → Some refusal.GranuleQuota ≡ first_reason (quota_order (config_of r) (state_in r ws) o n)
           granules_exceed h = sym (rw (quotas_told, lt-leb _ _ few, lt-ltb _ _ h))
 
           -- or it is within limits.
           pub within_limits : get_or k.held (o - 1) 0 + needed (config_of r) n ≤ get_or r.granule_quotas (o - 1) 0
-              → none ≡ first_reason (quota_order (config_of r) (state_in r ws) o n)
+              → None ≡ first_reason (quota_order (config_of r) (state_in r ws) o n)
           within_limits h = sym (rw (quotas_told, lt-leb _ _ few, le-ltb _ _ h))

@@ -2,7 +2,7 @@
 -- Assumes nothing.
 use mathlib.Core.Path.{◌≡◌, sym, ap, ◌∙◌}
 use mathlib.Core.List.{List}
-use mathlib.Core.Option.{Option, none, some}
+use Rattle.std.specs.Prelude.{Option, None, Some}
 use Prim.Native.Nat.{ℕ, ◌+◌, ◌*◌}
 use native.Mathlib.Omega.{arith}
 use lib.Dec.{leb, ltb}
@@ -65,8 +65,8 @@ module _ (r : Heap) (ws bytes : List ℕ) (o n a : ℕ) (out : Allocated) (words
 
 -- A resize that is not refused does not answer 19.
 no_19 : (f : Option Segment) (k : ℕ) → ¬ (given f (resized.Freed k) (λ b. resized.At (offset b)) ≡ resized.Refused refusal.BrokenGuard)
-no_19 none k e = let z : ◌≡◌ {A = ℕ} 0 1 = cc in omega arith
-no_19 (some b) k e = let z : ◌≡◌ {A = ℕ} 0 1 = cc in omega arith
+no_19 None k e = let z : ◌≡◌ {A = ℕ} 0 1 = cc in omega arith
+no_19 (Some b) k e = let z : ◌≡◌ {A = ℕ} 0 1 = cc in omega arith
 
 -- Of a free and a resize by owner o of the block at x: what they find broken is a valid heap, its whole arena, o's block at x, and a byte of its guard that is not 0x77.
 module _ (r : Heap) (ws bytes : List ℕ) (o x : ℕ) where
@@ -78,7 +78,7 @@ module _ (r : Heap) (ws bytes : List ℕ) (o x : ℕ) where
     -- it answers 19 if it finds that, and changes nothing,
     pub broken_free : Broken → (out.freed ≡ freed.Refused refusal.BrokenGuard) × (out.heap ≡ r) × (words_after ≡ ws) × (bytes_after ≡ bytes)
     broken_free f =
-        let e : first_reason (free_order (valid r ws) (config_of r) (state_in r ws) bytes o x) ≡ some refusal.BrokenGuard =
+        let e : first_reason (free_order (valid r ws) (config_of r) (state_in r ws) bytes o x) ≡ Some refusal.BrokenGuard =
         told_free (valid r ws) (config_of r) (state_in r ws) bytes o x (valid_kept r ws f.valid) f in
         (d.answer ∙ rw e, d.heap ∙ rw e, d.table ∙ rw e, d.arena ∙ rw e)
 
@@ -95,7 +95,7 @@ module _ (r : Heap) (ws bytes : List ℕ) (o x : ℕ) where
     -- so does it,
     pub broken_realloc : Broken → (out.resized ≡ resized.Refused refusal.BrokenGuard) × (out.heap ≡ r) × (words_after ≡ ws) × (bytes_after ≡ bytes)
     broken_realloc f =
-        let e : first_reason (realloc_order (valid r ws) (config_of r) (state_in r ws) bytes o x n) ≡ some refusal.BrokenGuard =
+        let e : first_reason (realloc_order (valid r ws) (config_of r) (state_in r ws) bytes o x n) ≡ Some refusal.BrokenGuard =
         (realloc_19_exactly (valid r ws) (config_of r) (state_in r ws) bytes o x (valid_kept r ws f.valid) n).1 f in
         (d.answer ∙ rw e, d.heap ∙ rw e, d.table ∙ rw e, d.arena ∙ rw e)
 

@@ -3,7 +3,7 @@
 use mathlib.Core.Path.{◌≡◌, sym}
 use mathlib.Core.Bool.{true, false}
 use mathlib.Core.List.{List, ◌∷◌}
-use mathlib.Core.Option.{none, some}
+use Rattle.std.specs.Prelude.{None, Some}
 use Prim.Native.Nat.{ℕ, ◌+◌, ◌-◌, ◌*◌, ◌/◌, ◌≤◌}
 use native.Mathlib.Omega.{arith}
 use lib.Dec.{leb, ltb}
@@ -40,7 +40,7 @@ use Rattle.model.specs.declared.Holding.TheVariants as holding
 pub alloc_refused : (s : Stored) (arena : List ℕ) (o n a : ℕ) (r : Refusal) → alloc_aligned s arena o n a ≡ placed.Refused r
     → (after_alloc_aligned s arena o n a ≡ s) × (arena_after_alloc_aligned s arena o n a ≡ arena)
 alloc_refused s arena o n a r e =
-    let q : (t : Refusal) × (first_reason (alloc_order (is_valid s) (config s) (state s) arena o n a) ≡ some t) =
+    let q : (t : Refusal) × (first_reason (alloc_order (is_valid s) (config s) (state s) arena o n a) ≡ Some t) =
     refused_some (alloc_order (is_valid s) (config s) (state s) arena o n a) _ placed.Refused r (λ z. let w : ◌≡◌ {A = ℕ} 0 1 = cc in omega arith) e in
     (rw q.1, rw q.1)
 
@@ -48,7 +48,7 @@ alloc_refused s arena o n a r e =
 pub free_refused : (s : Stored) (arena : List ℕ) (o x : ℕ) (r : Refusal) → free s arena o x ≡ freed.Refused r
     → (after_free s arena o x ≡ s) × (arena_after_free s arena o x ≡ arena)
 free_refused s arena o x r e =
-    let q : (t : Refusal) × (first_reason (free_order (is_valid s) (config s) (state s) arena o x) ≡ some t) =
+    let q : (t : Refusal) × (first_reason (free_order (is_valid s) (config s) (state s) arena o x) ≡ Some t) =
     refused_some (free_order (is_valid s) (config s) (state s) arena o x) _ freed.Refused r (λ z. let w : ◌≡◌ {A = ℕ} 0 1 = cc in omega arith) e in
     (rw q.1, rw q.1)
 
@@ -72,14 +72,14 @@ pub init_done : (arena words : List ℕ) (p : Plan) → init arena words p ≡ m
     × (arena_after_init arena words p ≡ replicate (length arena) 0)
     × ((after_init arena words p).heap.base ≡ p.base)
 init_done arena words p done =
-    let q : first_reason (init_order arena words p) ≡ none = none_applies arena words p done in
+    let q : first_reason (init_order arena words p) ≡ None = none_applies arena words p done in
     let ranged : in_range (init_config arena words p) ≡ true = init_range arena words p done in
     (rw q (fresh_table (init_config arena words p) ranged), rw q (fresh_rows (init_config arena words p) ranged), rw q, rw q, rw q, rw q)
 
 -- A refused making answers an all-zero record, and leaves the table and the arena as they were.
 pub init_refused : (arena words : List ℕ) (p : Plan) (r : InitRefusal) → init arena words p ≡ made.Refused r
     → (after_init arena words p ≡ record { heap = zero_heap; words = words }) × (arena_after_init arena words p ≡ arena)
-init_refused arena words p r e = let q : first_reason (init_order arena words p) ≡ some r = init_reason arena words p r e in (rw q, rw q)
+init_refused arena words p r e = let q : first_reason (init_order arena words p) ≡ Some r = init_reason arena words p r e in (rw q, rw q)
 
 -- That record is not valid, with any table.
 pub refused_invalid : (arena words : List ℕ) (p : Plan) (r : InitRefusal) → init arena words p ≡ made.Refused r

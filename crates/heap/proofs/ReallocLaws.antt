@@ -3,7 +3,7 @@
 use mathlib.Core.Path.{◌≡◌, sym, ap, ◌∙◌, subst}
 use mathlib.Core.Bool.{Bool, true, false}
 use mathlib.Core.List.{List}
-use mathlib.Core.Option.{none, some}
+use Rattle.std.specs.Prelude.{None, Some}
 use Prim.Native.Nat.{ℕ, ◌+◌, ◌*◌, ◌/◌, ◌≤◌, ◌<◌, min}
 use native.Mathlib.Omega.{arith}
 use lib.Dec.{leb, ltb}
@@ -60,11 +60,11 @@ module _ (s : Stored) (arena : List ℕ) (o x n : ℕ) where
 
   -- what a resize that is answered y has found and leaves
   record Answered (y : ℕ) : Type 0 where
-    passed : first_reason order ≡ none
+    passed : first_reason order ≡ None
     old : Segment
-    was : block_at x (state s).blocks ≡ some old
+    was : block_at x (state s).blocks ≡ Some old
     new : Segment
-    left : resize (config s) (state s).blocks o x n ≡ some new
+    left : resize (config s) (state s).blocks o x n ≡ Some new
     at : offset new ≡ y
     sized : new.length ≡ needed (config s) n
     asks : new.requested ≡ n
@@ -98,14 +98,14 @@ module _ (s : Stored) (arena : List ℕ) (o x n : ℕ) where
       let b : Begins (config s) 0 x (state s).blocks a.old = begins (config s) 0 x (state s).blocks a.old a.kept.ordered a.was in
       split (stays (config s) (state s).blocks x n)
       (λ q. q)
-      (λ q. let f : refit (config s) (state s).blocks o x n ≡ some a.new = rw (ne_eqb n 0 (omega arith)) at a.left in
+      (λ q. let f : refit (config s) (state s).blocks o x n ≡ Some a.new = rw (ne_eqb n 0 (omega arith)) at a.left in
       let d : disjoint x (bytes a.old) (offset a.new) (bytes a.new) ≡ true = moves_clear (config s) (state s).blocks a.kept.ordered x a.old a.was n o a.new q f in
       absurd (omega (arith, a.at, a.sized, b.long, one_holds (x + bytes a.old) (offset a.new) (offset a.new + bytes a.new) x d)))
 
   -- For a block whose size is answered as these bytes, and a resize that answers y:
   module _ (requested held : ℕ) (asked : block_size s o x ≡ size.Bytes requested held) (y : ℕ) (e : realloc s arena o x n ≡ answer.At y) where
     -- what the enquiry told
-    told : (b : Segment) → block_at x (state s).blocks ≡ some b → (b.requested ≡ requested) × (bytes b ≡ held)
+    told : (b : Segment) → block_at x (state s).blocks ≡ Some b → (b.requested ≡ requested) × (bytes b ≡ held)
     told b w =
         split_option (first_reason (block_size_order (is_valid s) (config s) (state s) o x))
         (λ q. let z : size.Bytes b.requested (bytes b) ≡ size.Bytes requested held = rw (q, w) at asked in (cc, cc))

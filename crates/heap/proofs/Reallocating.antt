@@ -3,7 +3,7 @@
 use mathlib.Core.Path.{◌≡◌, refl, sym, ap, ◌∙◌, subst}
 use mathlib.Core.Bool.{true}
 use mathlib.Core.List.{List}
-use mathlib.Core.Option.{some}
+use Rattle.std.specs.Prelude.{Some}
 use Prim.Native.Nat.{ℕ, ◌+◌, ◌*◌, ◌/◌, ◌≤◌}
 use native.Mathlib.Omega.{arith}
 use lib.Dec.{leb, eqb}
@@ -81,7 +81,7 @@ module _ (r : Heap) (ws arena : List ℕ) (o x n : ℕ) (some_size : 1 ≤ n) wh
     -- Refused, it leaves all as it was.
     pub realloc_not : (why : Refusal) → p ≡ place.Refused why → ReallocDone r ws arena o x n (record { resized = answer.Refused why; heap = r }) ws arena
     realloc_not why q =
-        let e : first_reason whole ≡ some why = subst (ResizeDecided whole r ws o x n) q decided in
+        let e : first_reason whole ≡ Some why = subst (ResizeDecided whole r ws o x n) q decided in
         record { answer = rw e; numbered = rw e; heap = rw e; table = rw e; arena = rw e }
 
     module _ (i s : ℕ) (q : p ≡ place.At i s) where
@@ -108,8 +108,8 @@ module _ (r : Heap) (ws arena : List ℕ) (o x n : ℕ) (some_size : 1 ≤ n) wh
 
       -- The block in row i is read as old, and the resized one is new.
       module _ (old new : Segment) (old_is : old ≡ segment_at ws i) (is : new ≡ block (config_of r) o n s) where
-        was : block_at x blocks ≡ some old
-        was = d.1.old.block ∙ ap some (sym old_is)
+        was : block_at x blocks ≡ Some old
+        was = d.1.old.block ∙ ap Some (sym old_is)
 
         long : new.length ≡ needed (config_of r) n
         long = ap (λ (b : Segment). b.length) is
@@ -122,7 +122,7 @@ module _ (r : Heap) (ws arena : List ℕ) (o x n : ℕ) (some_size : 1 ≤ n) wh
 
         rows_few : rows_of (config_of r) (insert (block (config_of r) o n s) (without x blocks)) ≤ r.capacity
         rows_few =
-            let e : some (block (config_of r) o n has.place.start) ≡ some (block (config_of r) o n s) = sym has.place.fits ∙ d.1.new in
+            let e : Some (block (config_of r) o n has.place.start) ≡ Some (block (config_of r) o n s) = sym has.place.fits ∙ d.1.new in
             let z : block (config_of r) o n has.place.start ≡ block (config_of r) o n s = cc in
             subst (λ (b : Segment). rows_of (config_of r) (insert b (without x blocks)) ≤ r.capacity) z has.rows
 
@@ -160,7 +160,7 @@ module _ (r : Heap) (ws arena : List ℕ) (o x n : ℕ) (some_size : 1 ≤ n) wh
         apart : either (eqb x (16 * s)) (both (leb (bytes old) (bytes new)) (disjoint x (bytes old) (16 * s) (bytes new))) ≡ true
         apart =
             split (stays (config_of r) blocks x n)
-            (λ t. let e : some (block (config_of r) o n (x / 16)) ≡ some (block (config_of r) o n s) = rw t at d.1.new in
+            (λ t. let e : Some (block (config_of r) o n (x / 16)) ≡ Some (block (config_of r) o n s) = rw t at d.1.new in
             let y : block (config_of r) o n (x / 16) ≡ block (config_of r) o n s = cc in
             let z : x / 16 ≡ s = ap (λ (b : Segment). b.start) y in
             rw (eq-eqb x (16 * s) (omega (arith, row_at d.1.old))))
@@ -186,7 +186,7 @@ module _ (r : Heap) (ws arena : List ℕ) (o x n : ℕ) (some_size : 1 ≤ n) wh
               (subst (λ (k : ℕ). either (eqb x k) (both (leb (bytes old) (bytes new)) (disjoint x (bytes old) k (bytes new))) ≡ true) (sym (ap offset is)) apart),
         )
 
-        resize_is : resize (config_of r) blocks o x n ≡ some (block (config_of r) o n s)
+        resize_is : resize (config_of r) blocks o x n ≡ Some (block (config_of r) o n s)
         resize_is = rw (ne_eqb n 0 (omega arith)) d.1.new
 
         -- What is live then.

@@ -3,7 +3,7 @@
 use mathlib.Core.Path.{◌≡◌, refl, sym}
 use mathlib.Core.Bool.{Bool, true, false}
 use mathlib.Core.List.{List}
-use mathlib.Core.Option.{none, some}
+use Rattle.std.specs.Prelude.{None, Some}
 use Prim.Native.Nat.{ℕ, ◌/◌, ◌%◌}
 use native.Mathlib.Omega.{arith}
 use lib.Dec.{ltb, eqb}
@@ -25,11 +25,11 @@ module _ (v : Bool) (c : Config) (h : State) (arena : List ℕ) (o x : ℕ) wher
     pub whole : has_recorded_length c arena ≡ true
     pub owner : is_owner o ≡ true
     pub block : Segment
-    pub found : block_at x h.blocks ≡ some block
+    pub found : block_at x h.blocks ≡ Some block
     pub owned : block.owner ≡ o
     pub unbroken : is_broken c arena block ≡ false
 
-  pub released : first_reason (free_order v c h arena o x) ≡ none → Released
+  pub released : first_reason (free_order v c h arena o x) ≡ None → Released
   unfolding free_order
   released e =
       let r : NoReason (free_order v c h arena o x) = no_reason (free_order v c h arena o x) e in
@@ -50,7 +50,7 @@ module _ (v : Bool) (c : Config) (h : State) (arena : List ℕ) (o x : ℕ) wher
       })
 
   -- It answers the bytes that its block holds.
-  pub answered : (k : ℕ) → free v c h arena o x ≡ freed.Bytes k → (r : Released) × (first_reason (free_order v c h arena o x) ≡ none) × (k ≡ bytes r.block)
+  pub answered : (k : ℕ) → free v c h arena o x ≡ freed.Bytes k → (r : Released) × (first_reason (free_order v c h arena o x) ≡ None) × (k ≡ bytes r.block)
   answered k e =
       split_option (first_reason (free_order v c h arena o x))
       (λ q. let r : Released = released q in

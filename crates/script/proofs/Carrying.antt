@@ -3,7 +3,7 @@
 use mathlib.Core.Path.{◌≡◌, refl, sym, ap, ◌∙◌, subst}
 use mathlib.Core.Bool.{Bool, true, false, not}
 use mathlib.Core.List.{List, ◌++◌}
-use mathlib.Core.Option.{none, some}
+use Rattle.std.specs.Prelude.{None, Some}
 use Prim.Native.Nat.{ℕ, ◌*◌, ◌≤◌, min}
 use native.Mathlib.Omega.{arith}
 use lib.Dec.{ltb}
@@ -130,7 +130,7 @@ module _ (s : Script) (ws bs : List ℕ) (b r n k : ℕ) (bytes_part : n ≡ par
       (split (is_arena (length (take (part_of b (min most_bytes (length bs))) bs))) (λ q. rw (q, zero_base _ q)) (λ q. rw q))
 
   -- If it finds none, the parts have so many bytes and so many rows.
-  pub parts_whole : first_reason (make_order (machine s ws bs) b r) ≡ none → (n ≡ b) × (k ≡ 4 * r)
+  pub parts_whole : first_reason (make_order (machine s ws bs) b r) ≡ None → (n ≡ b) × (k ≡ 4 * r)
   unfolding make_order
   parts_whole q =
       let free = no_reason (make_order (machine s ws bs) b r) q in
@@ -144,7 +144,7 @@ module _ (s : Script) (ws bs : List ℕ) (b r n k : ℕ) (bytes_part : n ≡ par
     pub make_refused : (why : InitRefusal) → out.made ≡ made.Refused why
         → CommandDone s ws bs (command.Make b r) (record { answer = answer.NotMade why; script = s }) (words ++ drop k ws) (bytes ++ drop n bs)
     make_refused why e =
-        let q : first_reason (init_order (take n bs) (take k ws) (plan_of s)) ≡ some why = init_reason (take n bs) (take k ws) (plan_of s) why (sym d.answer ∙ e) in
+        let q : first_reason (init_order (take n bs) (take k ws) (plan_of s)) ≡ Some why = init_reason (take n bs) (take k ws) (plan_of s) why (sym d.answer ∙ e) in
         let table : words ≡ take k ws = rw q at d.table in
         let arena : bytes ≡ take n bs = rw q at d.arena in
         command_done (rw (same_reason, q)) (rw (same_reason, q, table, arena, take-append-drop k ws, take-append-drop n bs))
@@ -154,7 +154,7 @@ module _ (s : Script) (ws bs : List ℕ) (b r n k : ℕ) (bytes_part : n ≡ par
         → (then : Script) → then ≡ with_heap s out.heap
         → CommandDone s ws bs (command.Make b r) (record { answer = answer.Ok b; script = then }) (words ++ drop k ws) (bytes ++ drop n bs)
     make_done e then h =
-        let q : first_reason (make_order (machine s ws bs) b r) ≡ none = same_reason ∙ none_applies _ _ _ (sym d.answer ∙ e) in
+        let q : first_reason (make_order (machine s ws bs) b r) ≡ None = same_reason ∙ none_applies _ _ _ (sym d.answer ∙ e) in
         let whole : (n ≡ b) × (k ≡ 4 * r) = parts_whole q in
         let w : InitDone (take b bs) (take (4 * r) ws) (plan_of s) out bytes words =
         subst (λ (l : ℕ × ℕ). InitDone (take l.0 bs) (take l.1 ws) (plan_of s) out bytes words) (λ i. (whole.0 i, whole.1 i)) d in
