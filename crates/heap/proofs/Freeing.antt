@@ -3,7 +3,7 @@
 use mathlib.Core.Path.{◌≡◌, sym, ap, ◌∙◌, subst}
 use mathlib.Core.Bool.{Bool, true, false}
 use mathlib.Core.List.{List, [], ◌∷◌, ◌++◌}
-use Rattle.std.specs.Prelude.{None, Some}
+use Rattle.std.specs.Prelude.{None, Some, Ok, Err}
 use Prim.Native.Nat.{ℕ, ◌+◌, ◌*◌, ◌/◌, ◌%◌, ◌≤◌, ◌<◌}
 use native.Mathlib.Omega.{arith}
 use lib.Dec.{leb, ltb, eqb}
@@ -40,8 +40,6 @@ use Rattle.heap.proofs.Changing.{bounds, stored_changed}
 use Rattle.model.specs.declared.Segment.{Segment}
 use Rattle.model.specs.declared.Refusal.{Refusal}
 use Rattle.model.specs.declared.Refusal.TheVariants as refusal
-use Rattle.model.specs.declared.Freed.TheVariants as freed
-use Rattle.model.specs.declared.BlockSize.TheVariants as size
 use Rattle.heap.specs.declared.Heap.{Heap}
 use Rattle.heap.specs.declared.Lookup.{Lookup}
 use Rattle.heap.specs.declared.Lookup.TheVariants as lookup
@@ -136,18 +134,18 @@ module _ (r : Heap) (ws : List ℕ) (o x : ℕ) where
         (asked ∙ q, record { in_use = w.in_use; block = begun n.0 (not-false (eqb (x % 16) 0) n.1.0) n.1.1.0 n.1.1.1.0 ∙ ap Some e })
 
   -- The enquiry for a block's size: refused, and of what was found in a valid heap.
-  pub size_refused : (why : Refusal) → first_reason size_order ≡ Some why → BlockSizeDone r ws o x (size.Refused why)
+  pub size_refused : (why : Refusal) → first_reason size_order ≡ Some why → BlockSizeDone r ws o x (Err why)
   size_refused why e = record { answer = rw e; numbered = rw e }
 
   module _ (v : valid r ws ≡ true) (l : Lookup) (f : LookedUp look_order r ws x l) where
     sized : LookedUp size_order r ws x l
     sized = decides r ws x look_order size_order (rw v (sym (size_asks (config_of r) (state_in r ws) o x))) l f
 
-    pub size_not : (why : Refusal) → l ≡ lookup.Refused why → BlockSizeDone r ws o x (size.Refused why)
+    pub size_not : (why : Refusal) → l ≡ lookup.Refused why → BlockSizeDone r ws o x (Err why)
     size_not why q = size_refused why (subst (LookedUp size_order r ws x) q sized)
 
     pub size_row : (i : ℕ) → l ≡ lookup.Row i → (s : Segment) → s ≡ segment_at ws i → (requested held : ℕ) → requested ≡ s.requested → held ≡ bytes s
-        → BlockSizeDone r ws o x (size.Bytes requested held)
+        → BlockSizeDone r ws o x (Ok (record { requested = requested; held = held }))
     size_row i q s e requested held p h =
         let d : LookedUp size_order r ws x (lookup.Row i) = subst (LookedUp size_order r ws x) q sized in
         let b : block_at x blocks ≡ Some s = d.1.block ∙ ap Some (sym e) in
@@ -180,7 +178,7 @@ module _ (r : Heap) (ws : List ℕ) (o x : ℕ) where
         free_decided = decides r ws x guard_order order (sym (asked_then ∙ first_then look_order guard_order at.0))
 
     module _ (l : Lookup) (f : LookedUp order r ws x l) where
-      pub free_not : (why : Refusal) → l ≡ lookup.Refused why → FreeDone r ws arena o x (record { freed = freed.Refused why; heap = r }) ws arena
+      pub free_not : (why : Refusal) → l ≡ lookup.Refused why → FreeDone r ws arena o x (record { answer = Err why; heap = r }) ws arena
       free_not why q =
           let e : first_reason order ≡ Some why = subst (LookedUp order r ws x) q f in
           record { answer = rw e; numbered = rw e; heap = rw e; table = rw e; arena = rw e }
@@ -226,7 +224,7 @@ module _ (r : Heap) (ws : List ℕ) (o x : ℕ) where
           pub free_row : (m : ℕ) (after : List ℕ) → Rewritten r.rows ws (released i (segments_in r.rows ws)) m after
               → (h : Heap) (used : ℕ) → h ≡ updated_of r m used → used + s.length ≡ r.used
               → (k : ℕ) → k ≡ bytes s → (cleared : List ℕ) (v : ℕ) → cleared ≡ written x (replicate k v) arena → v ≡ 0
-              → FreeDone r ws arena o x (record { freed = freed.Bytes k; heap = h }) after cleared
+              → FreeDone r ws arena o x (record { answer = Ok k; heap = h }) after cleared
           free_row m after w h used u n k b cleared v a z =
               let t : handed (updated_of r m used) after ≡ store (config_of r) (releasing (state_in r ws) x) =
               stored_changed r ws good.valid (without x blocks) (released i (segments_in r.rows ws)) m used after rows (omega (arith, free_left)) w in

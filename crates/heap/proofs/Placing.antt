@@ -3,7 +3,7 @@
 use mathlib.Core.Path.{◌≡◌, refl, sym, ap, ◌∙◌, subst}
 use mathlib.Core.Bool.{true, false}
 use mathlib.Core.List.{List, ◌++◌}
-use Rattle.std.specs.Prelude.{None, Some}
+use Rattle.std.specs.Prelude.{None, Some, Ok, Err}
 use Prim.Native.Nat.{ℕ, ◌+◌, ◌*◌, ◌-◌, ◌≤◌, ◌<◌}
 use native.Mathlib.Omega.{arith}
 use lib.ListN.{length}
@@ -36,7 +36,6 @@ use Rattle.heap.proofs.Changing.{Bounds, bounds, stored_changed}
 use Rattle.model.specs.declared.Segment.{Segment}
 use Rattle.model.specs.declared.Refusal.{Refusal}
 use Rattle.model.specs.declared.Refusal.TheVariants as refusal
-use Rattle.model.specs.declared.Placed.TheVariants as placed
 use Rattle.heap.specs.declared.Heap.{Heap}
 use Rattle.heap.specs.declared.Place.{Place}
 use Rattle.heap.specs.declared.Place.TheVariants as place
@@ -128,7 +127,7 @@ module _ (r : Heap) (ws bytes : List ℕ) (o n a : ℕ) where
           decided_place (place.At row start) e = (rest ∙ e.0, e.1)
 
   -- Refused, it leaves all as it was.
-  pub alloc_not : (p : Place) → Decided whole r ws n a p → (why : Refusal) → p ≡ place.Refused why → AllocDone r ws bytes o n a (record { placed = placed.Refused why; heap = r }) ws bytes
+  pub alloc_not : (p : Place) → Decided whole r ws n a p → (why : Refusal) → p ≡ place.Refused why → AllocDone r ws bytes o n a (record { answer = Err why; heap = r }) ws bytes
   alloc_not p decided why q =
       let e : first_reason whole ≡ Some why = subst (Decided whole r ws n a) q decided in
       record { answer = rw e; numbered = rw e; heap = rw e; table = rw e; arena = rw e }
@@ -226,7 +225,7 @@ module _ (r : Heap) (ws bytes : List ℕ) (o n a : ℕ) where
         -- It answers its offset, and leaves the record and the table of the state with its block, whose guard is filled.
         pub alloc_done : (out : Heap) (used : ℕ) → out ≡ updated_of r m used → used ≡ r.used + b.length → (x : ℕ) → x ≡ 16 * s
             → (bytes_after : List ℕ) → bytes_after ≡ with_guard (config_of r) b bytes
-            → AllocDone r ws bytes o n a (record { placed = placed.At x; heap = out }) after bytes_after
+            → AllocDone r ws bytes o n a (record { answer = Ok x; heap = out }) after bytes_after
         alloc_done out used e u x is-offset bytes_after filled =
             let f : fit (config_of r) (blocks_in r.rows ws) o n a ≡ Some (block (config_of r) o n s) = fit_at (config_of r) (state_in r ws) o n a s d.1.lowest in
             record {

@@ -4,7 +4,7 @@ use mathlib.Core.Path.{◌≡◌, refl, sym, ap, ◌∙◌, subst}
 use mathlib.Core.Bool.{Bool, true, false, not}
 use mathlib.Core.List.{List, [], ◌∷◌, ◌++◌}
 use mathlib.Core.Logic.{◌↔◌, ◌⊎◌, inl, inr, ⊎_elim}
-use Rattle.std.specs.Prelude.{None, Some}
+use Rattle.std.specs.Prelude.{None, Some, Result, Ok, Err}
 use Prim.Native.Nat.{ℕ, suc, ◌+◌, ◌/◌, ◌≤◌, ◌<◌}
 use native.Mathlib.Omega.{arith}
 use lib.Dec.{leb, ltb, eqb}
@@ -17,7 +17,7 @@ use Rattle.model.specs.Arena.{has_recorded_length, zeroed, slice, guard_offset, 
 use Rattle.model.specs.Reasons.{Reason, invalid_heap, bad_owner, other_owner, broken_guard, other_arena}
 use Rattle.model.specs.Orders.{Order, first_reason, unless, offset_order, new_length_order, alloc_order, free_order, realloc_order, block_size_order, totals_order, holding_order}
 use Rattle.model.specs.Rules.{offset_for, bytes_at, requested_at, used_bytes, free_bytes, peak_bytes, longest_bytes, owned_blocks, owned_bytes, alloc, after_alloc, arena_after_alloc, free, after_free, arena_after_free, realloc, after_realloc, arena_after_realloc, block_size, totals_of, holding_of}
-use Rattle.model.specs.Numbers.{number_of, placed_numbered, freed_numbered, resized_numbered, size_numbered, totals_numbered, holding_numbered}
+use Rattle.model.specs.Numbers.{number_of, value_numbered, resized_numbered, size_numbered, totals_numbered, holding_numbered}
 use Rattle.model.proofs.Choosing.{split, split_option, tests, clash, one_holds, every_head, every_tail, every_first}
 use Rattle.model.proofs.Refusing.{NoReason, first_then, first_stays}
 use Rattle.model.proofs.Ordered.{Ordered, before_clear, after_clear, Place, lowest_place}
@@ -35,18 +35,11 @@ use Rattle.model.proofs.ResizedBytes.{bytes_guard, bytes_elsewhere}
 use Rattle.model.specs.declared.Segment.{Segment}
 use Rattle.model.specs.declared.Refusal.{Refusal}
 use Rattle.model.specs.declared.Refusal.TheVariants as refusal
-use Rattle.model.specs.declared.Placed.{Placed}
-use Rattle.model.specs.declared.Placed.TheVariants as placed
-use Rattle.model.specs.declared.Freed.{Freed}
-use Rattle.model.specs.declared.Freed.TheVariants as freed
 use Rattle.model.specs.declared.Resized.{Resized}
 use Rattle.model.specs.declared.Resized.TheVariants as resized
 use Rattle.model.specs.declared.BlockSize.{BlockSize}
-use Rattle.model.specs.declared.BlockSize.TheVariants as size
 use Rattle.model.specs.declared.Totals.{Totals}
-use Rattle.model.specs.declared.Totals.TheVariants as totals
 use Rattle.model.specs.declared.Holding.{Holding}
-use Rattle.model.specs.declared.Holding.TheVariants as holding
 
 -- Every byte of a block's guard is 0x77.
 abbrev pub GuardWhole : Config → List ℕ → Segment → Type 0
@@ -397,35 +390,35 @@ module _ (v : Bool) (c : Config) (h : State) (arena : List ℕ) (o x : ℕ) wher
   -- Where it finds that,
   module _ (k : Kept c h) (f : FoundBroken) where
     -- the free is answered 19 and leaves the state and the arena as they were,
-    pub free_told : (free v c h arena o x ≡ freed.Refused refusal.BrokenGuard) × (after_free v c h arena o x ≡ h) × (arena_after_free v c h arena o x ≡ arena)
+    pub free_told : (free v c h arena o x ≡ Err refusal.BrokenGuard) × (after_free v c h arena o x ≡ h) × (arena_after_free v c h arena o x ≡ arena)
     free_told = let e : first_reason (free_order v c h arena o x) ≡ Some refusal.BrokenGuard = told_free k f in (rw e, rw e, rw e)
 
     -- and so is and does a resize to whatever size.
-    pub realloc_told : (n : ℕ) → (realloc v c h arena o x n ≡ resized.Refused refusal.BrokenGuard) × (after_realloc v c h arena o x n ≡ h) × (arena_after_realloc v c h arena o x n ≡ arena)
+    pub realloc_told : (n : ℕ) → (realloc v c h arena o x n ≡ Err refusal.BrokenGuard) × (after_realloc v c h arena o x n ≡ h) × (arena_after_realloc v c h arena o x n ≡ arena)
     realloc_told n = let e : first_reason (realloc_order v c h arena o x n) ≡ Some refusal.BrokenGuard = (realloc_19_exactly k n).1 f in (rw e, rw e, rw e)
 
 -- Who is answered 19:
 module _ (v : Bool) (c : Config) (h : State) where
   -- no allocation,
-  pub alloc_not_19 : (arena : List ℕ) (o n a : ℕ) → ¬ ((placed_numbered (alloc v c h arena o n a)).0 ≡ 19)
+  pub alloc_not_19 : (arena : List ℕ) (o n a : ℕ) → ¬ ((value_numbered (alloc v c h arena o n a)).0 ≡ 19)
   unfolding alloc_order
   alloc_not_19 arena o n a e =
-      let r = reason_19 (alloc_order v c h arena o n a) (placed.At (offset_for c h o n a)) placed.Refused (λ (p : Placed). (placed_numbered p).0) refl (λ why. refl) e in
+      let r = reason_19 (alloc_order v c h arena o n a) (Ok (offset_for c h o n a)) Err (λ (p : Result ℕ Refusal). (value_numbered p).0) refl (λ why. refl) e in
       never_19 (alloc_order v c h arena o n a) refl r.0 r.1 r.2
 
   -- no free
-  pub free_not_19 : (arena : List ℕ) (o x : ℕ) → (has_recorded_length c arena ≡ true → OwnWhole c o h arena) → ¬ ((freed_numbered (free v c h arena o x)).0 ≡ 19)
+  pub free_not_19 : (arena : List ℕ) (o x : ℕ) → (has_recorded_length c arena ≡ true → OwnWhole c o h arena) → ¬ ((value_numbered (free v c h arena o x)).0 ≡ 19)
   free_not_19 arena o x own e =
-      let r = reason_19 (free_order v c h arena o x) (freed.Bytes (bytes_at h x)) freed.Refused (λ (f : Freed). (freed_numbered f).0) refl (λ why. refl) e in
+      let r = reason_19 (free_order v c h arena o x) (Ok (bytes_at h x)) Err (λ (f : Result ℕ Refusal). (value_numbered f).0) refl (λ why. refl) e in
       let f : FoundBroken v c h arena o x = free_19 v c h arena o x r.0 r.1 r.2 in
       none_broken v c h arena o x (own f.whole) f
 
   -- and no resize by an owner whose guards are all whole (in an arena of another length they need not be),
   pub realloc_not_19 : (arena : List ℕ) (o x n : ℕ) → (has_recorded_length c arena ≡ true → OwnWhole c o h arena) → ¬ ((resized_numbered (realloc v c h arena o x n)).0 ≡ 19)
   realloc_not_19 arena o x n own e =
-      let value : Resized = given (resize c h.blocks o x n) (resized.Freed (bytes_at h x)) (λ b. resized.At (offset b)) in
+      let value : Result Resized Refusal = given (resize c h.blocks o x n) (Ok (resized.Freed (bytes_at h x))) (λ b. Ok (resized.At (offset b))) in
       let zeroth : (resized_numbered value).0 ≡ 0 = split_option (resize c h.blocks o x n) (λ p. rw p) (λ b p. rw p) in
-      let r = reason_19 (realloc_order v c h arena o x n) value resized.Refused (λ (f : Resized). (resized_numbered f).0) zeroth (λ why. refl) e in
+      let r = reason_19 (realloc_order v c h arena o x n) value Err (λ (f : Result Resized Refusal). (resized_numbered f).0) zeroth (λ why. refl) e in
       let f : FoundBroken v c h arena o x = realloc_19 v c h arena o x n r.0 r.1 r.2 in
       none_broken v c h arena o x (own f.whole) f
 
@@ -433,19 +426,19 @@ module _ (v : Bool) (c : Config) (h : State) where
   pub size_not_19 : (o x : ℕ) → ¬ ((size_numbered (block_size v c h o x)).0 ≡ 19)
   unfolding block_size_order
   size_not_19 o x e =
-      let r = reason_19 (block_size_order v c h o x) (size.Bytes (requested_at h x) (bytes_at h x)) size.Refused (λ (b : BlockSize). (size_numbered b).0) refl (λ why. refl) e in
+      let r = reason_19 (block_size_order v c h o x) (Ok (record { requested = requested_at h x; held = bytes_at h x })) Err (λ (b : Result BlockSize Refusal). (size_numbered b).0) refl (λ why. refl) e in
       never_19 (block_size_order v c h o x) refl r.0 r.1 r.2
 
   -- for the totals
   pub totals_not_19 : ¬ ((totals_numbered (totals_of v c h)).0 ≡ 19)
   unfolding totals_order
   totals_not_19 e =
-      let r = reason_19 (totals_order v) (totals.Bytes (used_bytes h) (free_bytes c h) (peak_bytes h) (longest_bytes c h)) totals.Refused (λ (t : Totals). (totals_numbered t).0) refl (λ why. refl) e in
+      let r = reason_19 (totals_order v) (Ok (record { used = used_bytes h; free = free_bytes c h; peak = peak_bytes h; longest = longest_bytes c h })) Err (λ (t : Result Totals Refusal). (totals_numbered t).0) refl (λ why. refl) e in
       never_19 (totals_order v) refl r.0 r.1 r.2
 
   -- or for what an owner holds.
   pub holding_not_19 : (o : ℕ) → ¬ ((holding_numbered (holding_of v c h o)).0 ≡ 19)
   unfolding holding_order
   holding_not_19 o e =
-      let r = reason_19 (holding_order v o) (holding.Of (owned_blocks h o) (owned_bytes h o)) holding.Refused (λ (t : Holding). (holding_numbered t).0) refl (λ why. refl) e in
+      let r = reason_19 (holding_order v o) (Ok (record { blocks = owned_blocks h o; bytes = owned_bytes h o })) Err (λ (t : Result Holding Refusal). (holding_numbered t).0) refl (λ why. refl) e in
       never_19 (holding_order v o) refl r.0 r.1 r.2

@@ -4,7 +4,7 @@ use mathlib.Core.Path.{◌≡◌, refl, sym, ap, ◌∙◌}
 use mathlib.Core.Bool.{Bool, true, false}
 use mathlib.Core.List.{List, [], ◌∷◌, Memᴰ}
 use mathlib.Core.Logic.{◌↔◌}
-use Rattle.std.specs.Prelude.{None, Some}
+use Rattle.std.specs.Prelude.{None, Some, Ok, Err}
 use Prim.Native.Nat.{ℕ, ◌+◌, ◌*◌, ◌/◌, ◌%◌, ◌≤◌, ◌<◌}
 use native.Mathlib.Omega.{arith}
 use lib.Dec.{ltb, eqb}
@@ -92,25 +92,25 @@ insert_member b (x ∷ xs) = split (ltb b.start x.start) (λ q. rw q (Memᴰ.hea
 
 module _ (v : Bool) (c : Config) (h : State) (arena : List ℕ) (o x n : ℕ) where
   -- A resize to another size than 0 that is not refused answers an offset.
-  pub answers_offset : 1 ≤ n → first_reason (realloc_order v c h arena o x n) ≡ None → (y : ℕ) × (realloc v c h arena o x n ≡ answer.At y)
+  pub answers_offset : 1 ≤ n → first_reason (realloc_order v c h arena o x n) ≡ None → (y : ℕ) × (realloc v c h arena o x n ≡ Ok (answer.At y))
   answers_offset hn e =
       let r : Accepted v c h arena o x n = accepted v c h arena o x n hn e in
       (16 * r.place.start, rw (e, ne_eqb n 0 (omega arith), r.place.fits))
 
   -- Where a resize answers an offset, the owner's block of n bytes is live there.
-  pub answered_live : (y : ℕ) → realloc v c h arena o x n ≡ answer.At y
+  pub answered_live : (y : ℕ) → realloc v c h arena o x n ≡ Ok (answer.At y)
       → (s : ℕ) × (y ≡ 16 * s) × Memᴰ (block c o n s) (after_realloc v c h arena o x n).blocks
   answered_live y e =
       split_option (first_reason (realloc_order v c h arena o x n))
       (λ q. split (eqb n 0)
-      (λ z. let e' : answer.Freed (bytes_at h x) ≡ answer.At y = rw (q, z) at e in let w : ◌≡◌ {A = ℕ} 0 1 = cc in absurd (omega arith))
+      (λ z. let e' : Ok (answer.Freed (bytes_at h x)) ≡ Ok (answer.At y) = rw (q, z) at e in let w : ◌≡◌ {A = ℕ} 0 1 = cc in absurd (omega arith))
       (λ z. split_option (refit c h.blocks o x n)
-      (λ p. let e' : answer.Freed (bytes_at h x) ≡ answer.At y = rw (q, z, p) at e in let w : ◌≡◌ {A = ℕ} 0 1 = cc in absurd (omega arith))
+      (λ p. let e' : Ok (answer.Freed (bytes_at h x)) ≡ Ok (answer.At y) = rw (q, z, p) at e in let w : ◌≡◌ {A = ℕ} 0 1 = cc in absurd (omega arith))
       (λ d p. let r : Refit c h o x n = refitted c h o x n (rw p) in
-      let e' : answer.At (16 * r.start) ≡ answer.At y = rw (q, z, r.fits) at e in
+      let e' : Ok (answer.At (16 * r.start)) ≡ Ok (answer.At y) = rw (q, z, r.fits) at e in
       let i : 16 * r.start ≡ y = cc in
       (r.start, sym i, rw (q, z, r.fits) (insert_member (block c o n r.start) (without x h.blocks))))))
-      (λ r q. let e' : answer.Refused r ≡ answer.At y = rw q at e in let w : ◌≡◌ {A = ℕ} 0 1 = cc in absurd (omega arith))
+      (λ r q. let e' : Err r ≡ Ok (answer.At y) = rw q at e in let w : ◌≡◌ {A = ℕ} 0 1 = cc in absurd (omega arith))
 
   -- The number and the value of a resize, by its order.
   pub realloc_numbered : resized_numbered (realloc v c h arena o x n) ≡ numbered_by number_of (realloc_order v c h arena o x n) (resized_to c h o x n ∷ [])
