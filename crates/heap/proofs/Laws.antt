@@ -1,6 +1,6 @@
 -- What the calls' definitions come to, for a reader: laws that hold for every record and every table.
 -- Assumes nothing.
-use mathlib.Core.Path.{◌≡◌, sym}
+use mathlib.Core.Path.{◌≡◌, sym, ap}
 use mathlib.Core.Bool.{true, false}
 use mathlib.Core.List.{List, ◌∷◌}
 use Rattle.std.specs.Prelude.{None, Some, Ok, Err}
@@ -14,7 +14,7 @@ use Rattle.model.specs.Allocation.{bytes, granules_of, free_granules}
 use Rattle.model.specs.SegmentMap.{longest_free}
 use Rattle.model.specs.Orders.{first_reason, alloc_order, free_order, init_order, block_size_order, totals_order, holding_order}
 use Rattle.model.specs.Rules.{init_config, bytes_at}
-use Rattle.model.proofs.Choosing.{split}
+use Rattle.model.proofs.Choosing.{split, ok_value}
 use Rattle.model.proofs.Refusing.{refused_some}
 use Rattle.model.proofs.Kept.{Kept}
 use Rattle.model.proofs.Released.{Released, answered}
@@ -29,6 +29,7 @@ use Rattle.model.specs.declared.Plan.{Plan}
 use Rattle.model.specs.declared.Refusal.{Refusal}
 use Rattle.model.specs.declared.Refusal.TheVariants as refusal
 use Rattle.model.specs.declared.InitRefusal.{InitRefusal}
+use Rattle.model.specs.declared.Totals.{Totals}
 
 -- A refused allocation leaves the record and the table as they were, and the arena.
 pub alloc_refused : (s : Stored) (arena : List ℕ) (o n a : ℕ) (r : Refusal) → alloc_aligned s arena o n a ≡ Err r
@@ -101,8 +102,8 @@ totals_whole s used free peak longest e =
     split (is_valid s)
     (λ v.
     let k : Kept (config s) (state s) = valid_kept s.heap s.words v in
-    let e' : Ok (record { used = (16 * granules_of (state s).blocks); free = (16 * free_granules (config s) (state s).blocks); peak = (16 * (state s).peak); longest = (16 * longest_free (config s) (state s).blocks) }) ≡ Ok (record { used = used; free = free; peak = peak; longest = longest }) = rw v at e in
-    let u : 16 * granules_of (state s).blocks ≡ used = cc in
-    let f : 16 * free_granules (config s) (state s).blocks ≡ free = cc in
+    let e' : Ok (record { used = 16 * granules_of (state s).blocks; free = 16 * free_granules (config s) (state s).blocks; peak = 16 * (state s).peak; longest = 16 * longest_free (config s) (state s).blocks }) ≡ Ok (record { used = used; free = free; peak = peak; longest = longest }) = rw v at e in
+    let u : 16 * granules_of (state s).blocks ≡ used = ap (λ (t : Totals). t.used) (ok_value e') in
+    let f : 16 * free_granules (config s) (state s).blocks ≡ free = ap (λ (t : Totals). t.free) (ok_value e') in
     omega (arith, used_free (config s) (state s) k))
     (λ v. let e' : Err refusal.InvalidHeap ≡ Ok (record { used = used; free = free; peak = peak; longest = longest }) = rw v at e in let w : ◌≡◌ {A = ℕ} 0 1 = cc in absurd (omega arith))

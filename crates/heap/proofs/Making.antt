@@ -31,10 +31,10 @@ use Rattle.heap.proofs.Conditions.{Conditions, valid_conditions}
 use Rattle.model.specs.declared.Plan.{Plan}
 use Rattle.model.specs.declared.InitRefusal.{InitRefusal}
 
-not_done : (r : InitRefusal) → Err r ≡ Ok tt → ⊥
+not_done : (r : InitRefusal) → Err r ≡ Ok (tt {0}) → ⊥
 not_done r e = let z : ◌≡◌ {A = ℕ} 0 1 = cc in omega arith
 
-done_none : (rs : Order InitRefusal) → given (first_reason rs) (Ok tt) Err ≡ Ok tt → first_reason rs ≡ None
+done_none : (rs : Order InitRefusal) → given (first_reason rs) (Ok (tt {0})) Err ≡ Ok (tt {0}) → first_reason rs ≡ None
 done_none rs e = split_option (first_reason rs) (λ q. q) (λ r q. absurd (not_done r (rw q at e)))
 
 -- an arena's length is a whole number of granules

@@ -17,7 +17,7 @@ use Rattle.model.specs.SegmentMap.{map_of}
 use Rattle.model.specs.Orders.{Order, unless, first_reason, free_order, realloc_order, block_size_order}
 use Rattle.model.specs.Rules.{bytes_at, resizing}
 use Rattle.model.specs.Rules as rules
-use Rattle.model.proofs.Choosing.{split, split_option, tests, one_holds}
+use Rattle.model.proofs.Choosing.{split, split_option, ok_value, tests, one_holds}
 use Rattle.model.proofs.Offsets.{Begins, begins}
 use Rattle.model.proofs.Kept.{Kept}
 use Rattle.model.proofs.Released.{Released, released}
@@ -37,6 +37,7 @@ use Rattle.model.specs.declared.Segment.{Segment}
 use Rattle.model.specs.declared.Refusal.{Refusal}
 use Rattle.model.specs.declared.Refusal.TheVariants as refusal
 use Rattle.model.specs.declared.Resized.TheVariants as answer
+use Rattle.model.specs.declared.BlockSize.{BlockSize}
 
 module _ (s : Stored) (arena : List ℕ) (o x n : ℕ) where
   abbrev order : Order Refusal
@@ -107,7 +108,7 @@ module _ (s : Stored) (arena : List ℕ) (o x n : ℕ) where
     told : (b : Segment) → block_at x (state s).blocks ≡ Some b → (b.requested ≡ requested) × (bytes b ≡ held)
     told b w =
         split_option (first_reason (block_size_order (is_valid s) (config s) (state s) o x))
-        (λ q. let z : Ok (record { requested = b.requested; held = (bytes b) }) ≡ Ok (record { requested = requested; held = held }) = rw (q, w) at asked in (cc, cc))
+        (λ q. let z : Ok (record { requested = b.requested; held = bytes b }) ≡ Ok (record { requested = requested; held = held }) = rw (q, w) at asked in (ap (λ (a : BlockSize). a.requested) (ok_value z), ap (λ (a : BlockSize). a.held) (ok_value z)))
         (λ t q. let z : Err t ≡ Ok (record { requested = requested; held = held }) = rw q at asked in let w : ◌≡◌ {A = ℕ} 0 1 = cc in absurd (omega arith))
 
     -- The first bytes, up to the smaller of the sizes requested before and now, are kept.
@@ -185,7 +186,7 @@ module _ (s : Stored) (arena : List ℕ) (o x n : ℕ) where
         let ranged : in_range c ≡ true = valid_range s.heap s.words a.good in (
           ap (λ (u : Stored). realloc u content o x requested) left
               ∙ (λ i. rules.realloc (stored_valid c h' k ranged i) c (state_back c h' k i) content o x requested)
-              ∙ rw (granted, ne_eqb requested 0 (omega arith), there) (ap Ok (answer.At b.first)),
+              ∙ rw (granted, ne_eqb requested 0 (omega arith), there) (ap (λ (y : ℕ). Ok (answer.At y)) b.first),
           ap (λ (u : Stored). (after_realloc u content o x requested).words) left
               ∙ (λ i. (unless (realloc_order (stored_valid c h' k ranged i) c (state_back c h' k i) content o x requested) (store c (resizing c (state_back c h' k i) o x requested)) (λ r. store c h')).words)
               ∙ rw granted (ap (λ (bs : List Segment). table_of c.capacity (map_of c bs)) blocks)
