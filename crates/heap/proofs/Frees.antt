@@ -59,7 +59,7 @@ module _ (r : Heap) (ws : List ℕ) where
   decides x p q e (Ok found) d = (sym e ∙ d.0, d.1)
 
   -- A refusal is decided by its reason.
-  pub looked_not : (x : ℕ) (p : Order Refusal) (l : Result Found Refusal) (why : Refusal) → l ≡ Err why → first_reason p ≡ Some why → LookedUp p r ws x l
+  looked_not : (x : ℕ) (p : Order Refusal) (l : Result Found Refusal) (why : Refusal) → l ≡ Err why → first_reason p ≡ Some why → LookedUp p r ws x l
   looked_not x p l why q e = subst (LookedUp p r ws x) (sym q) e
 
 -- A row in use has the block at x.
@@ -104,6 +104,9 @@ module _ (r : Heap) (ws : List ℕ) (o x : ℕ) where
 
   abbrev look_order : Order Refusal
   look_order = block_order (config_of r) (state_in r ws) o x
+
+  pub owned_not : (l : Result Found Refusal) (why : Refusal) → l ≡ Err why → first_reason look_order ≡ Some why → LookedUp look_order r ws x l
+  owned_not l why q e = looked_not r ws x look_order l why q e
 
   abbrev size_order : Order Refusal
   size_order = block_size_order (valid r ws) (config_of r) (state_in r ws) o x
@@ -182,10 +185,16 @@ module _ (r : Heap) (ws : List ℕ) (o x : ℕ) where
     abbrev valid_order : Order Refusal
     valid_order = free_order true (config_of r) (state_in r ws) arena o x
 
+    pub valid_not : (l : Result Found Refusal) (why : Refusal) → l ≡ Err why → first_reason valid_order ≡ Some why → LookedUp valid_order r ws x l
+    valid_not l why q e = looked_not r ws x valid_order l why q e
+
+    pub freed_not : (l : Result Found Refusal) (why : Refusal) → l ≡ Err why → first_reason order ≡ Some why → LookedUp order r ws x l
+    freed_not l why q e = looked_not r ws x order l why q e
+
     -- 11,
     pub free_11 : (why : Refusal) → first_reason (other_arena (config_of r) arena ∷ []) ≡ Some why → first_reason valid_order ≡ Some why
     unfolding free_order
-    free_11 why e = first_stays (other_arena (config_of r) arena ∷ []) _ why e
+    free_11 why e = first_stays (other_arena (config_of r) arena ∷ []) (look_order ++ guard_order) why e
 
     -- and after it the owner and the offset decide, and then the guard.
     module _ (a : has_recorded_length (config_of r) arena ≡ true) (l : Result Found Refusal) (f : LookedUp look_order r ws x l) where

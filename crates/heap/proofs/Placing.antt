@@ -2,7 +2,7 @@
 -- Assumes nothing.
 use mathlib.Core.Path.{◌≡◌, refl, sym, ap, ◌∙◌, subst}
 use mathlib.Core.Bool.{true, false}
-use mathlib.Core.List.{List, ◌++◌}
+use mathlib.Core.List.{List, [], ◌∷◌, ◌++◌}
 use Rattle.std.specs.Prelude.{None, Some, Result, Ok, Err}
 use Prim.Native.Nat.{ℕ, ◌+◌, ◌*◌, ◌-◌, ◌≤◌, ◌<◌}
 use native.Mathlib.Omega.{arith}
@@ -93,13 +93,13 @@ module _ (r : Heap) (ws bytes : List ℕ) (o n a : ℕ) where
   pub decided_not : (p : Result Place Refusal) (why : Refusal) → p ≡ Err why → first_reason whole ≡ Some why → Decided whole r ws n a p
   decided_not p why q e = subst (Decided whole r ws n a) (sym q) e
 
-  abbrev lent : Order Refusal
+  abbrev pub lent : Order Refusal
   lent = other_guarded_arena (config_of r) bytes ∷ []
 
   abbrev request : Order Refusal
   request = request_order o n a
 
-  abbrev quotas : Order Refusal
+  abbrev pub quotas : Order Refusal
   quotas = quota_order (config_of r) (state_in r ws) o n
 
   module _ (v : valid r ws ≡ true) where
@@ -109,22 +109,22 @@ module _ (r : Heap) (ws bytes : List ℕ) (o n a : ℕ) where
 
     -- 11, of a heap with guards,
     pub decided_11 : (why : Refusal) → first_reason lent ≡ Some why → first_reason whole ≡ Some why
-    decided_11 why e = parts ∙ first_stays lent _ why e
+    decided_11 why e = parts ∙ first_stays lent (request ++ (quotas ++ last r ws o n a)) why e
 
     module _ (l : first_reason lent ≡ None) where
       -- 2, 3 or 4,
       pub decided_proper : (why : Refusal) → first_reason request ≡ Some why → first_reason whole ≡ Some why
-      decided_proper why e = parts ∙ first_then lent _ l ∙ first_stays request _ why e
+      decided_proper why e = parts ∙ first_then lent (request ++ (quotas ++ last r ws o n a)) l ∙ first_stays request (quotas ++ last r ws o n a) why e
 
       module _ (p : first_reason request ≡ None) where
         -- 5 or 6,
         pub decided_quotas : (why : Refusal) → first_reason quotas ≡ Some why → first_reason whole ≡ Some why
-        decided_quotas why e = parts ∙ first_then lent _ l ∙ first_then request _ p ∙ first_stays quotas _ why e
+        decided_quotas why e = parts ∙ first_then lent (request ++ (quotas ++ last r ws o n a)) l ∙ first_then request (quotas ++ last r ws o n a) p ∙ first_stays quotas (last r ws o n a) why e
 
         -- 7, 8 or a place.
         module _ (q : first_reason quotas ≡ None) where
           rest : first_reason whole ≡ first_reason (last r ws o n a)
-          rest = parts ∙ first_then lent _ l ∙ first_then request _ p ∙ first_then quotas _ q
+          rest = parts ∙ first_then lent (request ++ (quotas ++ last r ws o n a)) l ∙ first_then request (quotas ++ last r ws o n a) p ∙ first_then quotas (last r ws o n a) q
 
           pub decided_place : (d : Result Place Refusal) → Decided (last r ws o n a) r ws n a d → Decided whole r ws n a d
           decided_place (Err why) e = rest ∙ e

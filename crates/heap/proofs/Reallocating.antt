@@ -55,14 +55,14 @@ same_numbers (Err why) = refl
 
 -- To size 0 it is a free.
 pub realloc_zero : (r : Heap) (ws arena : List ℕ) (o x n : ℕ) → n ≡ 0 → (f : Outcome ℕ) (after left : List ℕ) → FreeDone r ws arena o x f after left
-    → (out : Outcome Resized) → (out.answer ≡ as_resize f.answer) × (out.heap ≡ f.heap) → ReallocDone r ws arena o x n out after left
-realloc_zero r ws arena o x n z f after left d out e =
+    → (out : Outcome Resized) → out.answer ≡ as_resize f.answer → out.heap ≡ f.heap → ReallocDone r ws arena o x n out after left
+realloc_zero r ws arena o x n z f after left d out e same =
     let order = zero_order (valid r ws) (config_of r) (state_in r ws) arena o x in
     subst (λ (n : ℕ). ReallocDone r ws arena o x n out after left) (sym z)
     (record {
-      answer = e.0 ∙ ap as_resize d.answer ∙ sym (zero_answer (valid r ws) (config_of r) (state_in r ws) arena o x);
-      numbered = ap resized_numbered e.0 ∙ same_numbers f.answer ∙ rw order d.numbered;
-      heap = e.1 ∙ rw order d.heap;
+      answer = e ∙ ap as_resize d.answer ∙ sym (zero_answer (valid r ws) (config_of r) (state_in r ws) arena o x);
+      numbered = ap resized_numbered e ∙ same_numbers f.answer ∙ rw order d.numbered;
+      heap = same ∙ rw order d.heap;
       table = rw order d.table;
       arena = rw order d.arena;
     })

@@ -34,7 +34,7 @@ use Rattle.heap.specs.Steps.{Examination, IsBlock, LookedUp, ResizeDecided}
 use Rattle.heap.proofs.ValidStored.{valid_map, valid_kept}
 use Rattle.heap.proofs.Changing.{Bounds, bounds}
 use Rattle.heap.proofs.Asking.{owner_least, owner_most, granules_counted}
-use Rattle.heap.proofs.Frees.{BlockRow, row_found, row_live, row_at}
+use Rattle.heap.proofs.Frees.{BlockRow, row_found, row_live, row_at, free_invalid}
 use Rattle.model.specs.declared.Segment.{Segment}
 use Rattle.model.specs.declared.Refusal.{Refusal}
 use Rattle.model.specs.declared.Refusal.TheVariants as refusal
@@ -164,9 +164,15 @@ module _ (r : Heap) (ws arena : List ℕ) (o x n : ℕ) (some_size : 1 ≤ n) wh
   abbrev whole : Order Refusal
   whole = realloc_order (valid r ws) (config_of r) (state_in r ws) arena o x n
 
+  refused : (p : Result Refitted Refusal) (why : Refusal) → p ≡ Err why → first_reason before ≡ Some why → ResizeDecided whole r ws o x n p
+  refused p why q e = subst (ResizeDecided whole r ws o x n) (sym q) (free_refuses (valid r ws) (config_of r) (state_in r ws) arena o x n why e)
+
+  pub refit_invalid : valid r ws ≡ false → (p : Result Refitted Refusal) → p ≡ Err refusal.InvalidHeap → ResizeDecided whole r ws o x n p
+  refit_invalid v p q = refused p refusal.InvalidHeap q (free_invalid r ws o x arena v)
+
   module _ (l : Result Found Refusal) (f : LookedUp before r ws x l) where
-    pub refit_not : (why : Refusal) → l ≡ Err why → first_reason whole ≡ Some why
-    refit_not why q = free_refuses (valid r ws) (config_of r) (state_in r ws) arena o x n why (subst (LookedUp before r ws x) q f)
+    pub refit_not : (why : Refusal) → l ≡ Err why → (p : Result Refitted Refusal) → p ≡ Err why → ResizeDecided whole r ws o x n p
+    refit_not why q p e = refused p why e (subst (LookedUp before r ws x) q f)
 
     module _ (was : Found) (q : l ≡ Ok was) where
       looked : LookedUp before r ws x (Ok was)

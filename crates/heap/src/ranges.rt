@@ -8,8 +8,8 @@ ghost use Rattle.heap.specs.Stored.{config_of};
 use crate::record::Heap;
 
 /// The eight quotas are at most so much.
-fn are_quotas(quotas: [u32; 8], most: u32) -> bool
-    ensures { result ≡ are_quotas most quotas }
+fn are_quotas(quotas: &[u32; 8], most: u32) -> bool
+    ensures { result ≡ are_quotas most quotas.now }
 {
     quotas.iter().all(|&quota| quota <= most)
 }
@@ -18,7 +18,7 @@ fn are_quotas(quotas: [u32; 8], most: u32) -> bool
 pub(crate) fn quotas_in_range(granules: [u32; 8], blocks: [u32; 8]) -> bool
     ensures { result ≡ quotas_in_range granules blocks }
 {
-    are_quotas(granules, 65536) && are_quotas(blocks, 256)
+    are_quotas(&granules, 65536) && are_quotas(&blocks, 256)
 }
 
 /// An arena of so many granules may start at the address `base`. The sum is taken in 64 bits, so that it does not wrap at the top of the address space.

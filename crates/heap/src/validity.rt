@@ -1,6 +1,7 @@
 //! Whether a record and a table are a heap: the one check of every call.
 
 ghost use Rattle.std.specs.Prelude.{◌≡◌, ◌&&◌};
+ghost use Rattle.model.specs.Quantities.{within};
 ghost use Rattle.heap.specs.Valid.{valid};
 ghost use Rattle.heap.specs.Steps.{framed, keeps_all, agrees_with, Examined};
 
@@ -28,6 +29,13 @@ impl Heap {
             && (1..=self.capacity).contains(&self.rows)
     }
 
+    /// The peak is from used to the arena's granules.
+    fn has_peak(self) -> bool
+        ensures { result ≡ within self.used self.granules self.peak }
+    {
+        (self.used..=self.granules).contains(&self.peak)
+    }
+
     /// No owner has more blocks or granules than its quotas.
     fn keeps_quotas(self, k: Census) -> bool
         ensures { result ≡ keeps_all k.blocks self.block_quotas && keeps_all k.held self.granule_quotas }
@@ -41,7 +49,7 @@ impl Heap {
     {
         zero_from(table, 4 * (self.rows as usize))
             && self.used == k.used
-            && (self.used..=self.granules).contains(&self.peak)
+            && self.has_peak()
             && self.keeps_quotas(k)
     }
 

@@ -11,24 +11,24 @@ pub returns-then-not-is_arena : goal.returns-then-not-is_arena
 unfolding init_order
 returns-then-not-is_arena c arena words a w = rw (a, sym c.is_arena.ensures ∙ c.if-not-is_arena.true)
 
-pub returns-then-not-base_good : goal.returns-then-not-base_good
+pub returns-then-not-is_base : goal.returns-then-not-is_base
 unfolding init_order
-returns-then-not-base_good c arena words a w =
+returns-then-not-is_base c arena words a w =
     let p = c.args in
     let good : is_arena c.args.bytes ≡ true = sym c.is_arena.ensures ∙ c.if-not-is_arena.false in
-    rw (a, good, base_granules p.bytes p.plan.base good ∙ sym c.is_base-base_good.ensures ∙ c.if-not-base_good.true)
+    rw (a, good, base_granules p.bytes p.plan.base good ∙ sym c.is_base.ensures ∙ c.if-not-is_base.true)
 
-pub returns-then-not-table_good : goal.returns-then-not-table_good
+pub returns-then-not-is_table : goal.returns-then-not-is_table
 unfolding init_order
-returns-then-not-table_good c arena words a w =
-    rw (a, w, (let h : is_arena c.args.bytes ≡ true = sym c.is_arena.ensures ∙ c.if-not-is_arena.false in h), (let h : (let p = c.args in is_base p.bytes p.plan.base ≡ true) = let p = c.args in base_granules p.bytes p.plan.base ((let h : is_arena c.args.bytes ≡ true = sym c.is_arena.ensures ∙ c.if-not-is_arena.false in h)) ∙ sym c.is_base-base_good.ensures ∙ c.if-not-base_good.false in h), sym c.is_table-table_good.ensures ∙ c.if-not-table_good.true)
+returns-then-not-is_table c arena words a w =
+    rw (a, w, (let h : is_arena c.args.bytes ≡ true = sym c.is_arena.ensures ∙ c.if-not-is_arena.false in h), (let h : (let p = c.args in is_base p.bytes p.plan.base ≡ true) = let p = c.args in base_granules p.bytes p.plan.base ((let h : is_arena c.args.bytes ≡ true = sym c.is_arena.ensures ∙ c.if-not-is_arena.false in h)) ∙ sym c.is_base.ensures ∙ c.if-not-is_base.false in h), sym c.is_table.ensures ∙ c.if-not-is_table.true)
 
 pub returns-then-not-quotas_in_range : goal.returns-then-not-quotas_in_range
 unfolding init_order
 returns-then-not-quotas_in_range c arena words a w =
-    rw (a, w, (let h : is_arena c.args.bytes ≡ true = sym c.is_arena.ensures ∙ c.if-not-is_arena.false in h), (let h : (let p = c.args in is_base p.bytes p.plan.base ≡ true) = let p = c.args in base_granules p.bytes p.plan.base ((let h : is_arena c.args.bytes ≡ true = sym c.is_arena.ensures ∙ c.if-not-is_arena.false in h)) ∙ sym c.is_base-base_good.ensures ∙ c.if-not-base_good.false in h), (let h : is_table c.args.words ≡ true = sym c.is_table-table_good.ensures ∙ c.if-not-table_good.false in h), sym c.quotas_in_range.ensures ∙ c.if-not-quotas_in_range.true)
+    rw (a, w, (let h : is_arena c.args.bytes ≡ true = sym c.is_arena.ensures ∙ c.if-not-is_arena.false in h), (let h : (let p = c.args in is_base p.bytes p.plan.base ≡ true) = let p = c.args in base_granules p.bytes p.plan.base ((let h : is_arena c.args.bytes ≡ true = sym c.is_arena.ensures ∙ c.if-not-is_arena.false in h)) ∙ sym c.is_base.ensures ∙ c.if-not-is_base.false in h), (let h : is_table c.args.words ≡ true = sym c.is_table.ensures ∙ c.if-not-is_table.false in h), sym c.quotas_in_range.ensures ∙ c.if-not-quotas_in_range.true)
 
 pub returns : goal.returns
 unfolding init_order
 returns c arena words a w =
-    rw (a, w, (let h : is_arena c.args.bytes ≡ true = sym c.is_arena.ensures ∙ c.if-not-is_arena.false in h), (let h : (let p = c.args in is_base p.bytes p.plan.base ≡ true) = let p = c.args in base_granules p.bytes p.plan.base ((let h : is_arena c.args.bytes ≡ true = sym c.is_arena.ensures ∙ c.if-not-is_arena.false in h)) ∙ sym c.is_base-base_good.ensures ∙ c.if-not-base_good.false in h), (let h : is_table c.args.words ≡ true = sym c.is_table-table_good.ensures ∙ c.if-not-table_good.false in h), sym c.quotas_in_range.ensures ∙ c.if-not-quotas_in_range.false)
+    rw (a, w, (let h : is_arena c.args.bytes ≡ true = sym c.is_arena.ensures ∙ c.if-not-is_arena.false in h), (let h : (let p = c.args in is_base p.bytes p.plan.base ≡ true) = let p = c.args in base_granules p.bytes p.plan.base ((let h : is_arena c.args.bytes ≡ true = sym c.is_arena.ensures ∙ c.if-not-is_arena.false in h)) ∙ sym c.is_base.ensures ∙ c.if-not-is_base.false in h), (let h : is_table c.args.words ≡ true = sym c.is_table.ensures ∙ c.if-not-is_table.false in h), sym c.quotas_in_range.ensures ∙ c.if-not-quotas_in_range.false)

@@ -1,9 +1,20 @@
-use Rattle.std.proofs.Common.{rules, ◌≡◌, ◌*◌, ◌%◌, ◌≤◌, eqb, ℕ, ◌+◌, ◌-◌, ◌<◌, length, ◌/◌, Bool, true, false, nat_lt, List, [], ◌∷◌, ◌++◌, slice_index_or, slice_set, bit_and, bit_or, Fits, w8, w32, w64, Bor, MutBor}
-use Rattle.model.specs.Choose.{both}
-use Rattle.model.specs.Quantities.{is_arena, is_base, is_table, is_owner, are_quotas, quotas_in_range, is_alignment, in_range}
-use Rattle.heap.specs.Stored.{config_of}
+-- `heap::are_quotas` meets its contract.
+-- Assumes nothing.
+use Rattle.std.specs.Prelude.{◌≡◌, ℕ, length, nat_le}
+use Rattle.std.specs.List.{list_all}
+use Rattle.std.proofs.Common.{rules, arith, sym, ◌∙◌}
+use Rattle.std.proofs.lemmas.Iterator.{YieldsList-from_slice}
+use Rattle.std.proofs.lemmas.Iterator.Search.{all_from_yields_List}
+use borrow.Author.Tests.{le-leb}
+use Rattle.model.specs.Quantities.{within}
 use Rattle.heap.proofs.ranges.are_quotas.Goals as goal
 
--- src/ranges.rt:11:1
+-- every number is at least 0
+from_0 : (most x : ℕ) → nat_le x most ≡ within 0 most x
+from_0 most x = rw (le-leb 0 x (omega arith))
+
 pub returns : goal.returns
-returns c = ?
+returns c =
+    let n : length c.args.quotas.now ≡ 8 = search rules in
+    rw n (all_from_yields_List (λ x. nat_le x c.args.most) _ _ c.all.result c.all.ensures.ran (YieldsList-from_slice _ c.iter.ensures.rest) (λ x b q k. search rules)
+        ∙ (λ i. list_all (λ x. from_0 c.args.most x i) c.args.quotas.now))

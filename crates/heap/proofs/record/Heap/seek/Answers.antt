@@ -60,8 +60,8 @@ returns-then-self-rows c =
     table_full_lem a.self a.table.now a.owner a.size a.align c.requires.valid c.requires.proper _ c.granules_with-need.ensures _ c.first_fit-fit.ensures _ _ c.in-At.is
     _ _ c.row-s.ensures (c.new_block-wanted.ensures (config_of a.self) refl) _ c.pieces.ensures.0 (omega arith)
 
-pub returns-else-heap-rows : goal.returns-else-heap-rows
-returns-else-heap-rows c =
+pub returns : goal.returns
+returns c =
     let a = c.args in
     place_there a.self a.table.now a.owner a.size a.align c.requires.valid c.requires.proper _ c.granules_with-need.ensures _ c.first_fit-fit.ensures _ _ c.in-At.is
     _ _ c.row-s.ensures (c.new_block-wanted.ensures (config_of a.self) refl) _ c.pieces.ensures.0 (omega arith)
