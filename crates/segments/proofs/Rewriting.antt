@@ -5,9 +5,9 @@ use Rattle.segments.specs.Rows.{table_of, segment_at, segments_in, with_row, wit
 use Rattle.model.specs.Allocation.{granules_of}
 use Rattle.model.specs.SegmentMap.{is_free, free_run, gap}
 use Rattle.segments.specs.Changes.{replaced, inserted, removed, cut, join_first, joined, free_first, freed, released}
-use Rattle.segments.proofs.Replacing.{replaced_none, gap_some, gap_none, cut_steps, join_steps, first_live, second_live, both_free, granules_append, granules_joined, granules_freed, length_freed, length_joined}
+use Rattle.segments.proofs.Cuts.{replaced_none, gap_some, gap_none, cut_steps, join_steps, first_live, second_live, both_free, granules_append, granules_joined, granules_freed, length_freed, length_joined}
 use Rattle.segments.proofs.Reading.{rest_row, row_parted, rows_before}
-use Rattle.segments.proofs.Words.{length_replaced, replaced_count, row_set, rows_same, then_rows, table_rows}
+use Rattle.segments.proofs.Written.{length_replaced, replaced_count, row_set, rows_same, then_rows, table_rows}
 use Rattle.segments.proofs.Rows.{read_back, length_segments}
 use Rattle.model.specs.declared.Segment.{Segment}
 

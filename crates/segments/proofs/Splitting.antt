@@ -14,7 +14,7 @@ use Rattle.segments.specs.Changes.{replaced, cut}
 use Rattle.segments.proofs.MapTiles.{gap_free, gap_formed, tiles_cons, tiles_gap, gap_tiles, live_formed, owner_not_0, live_map, tiles_map, is_map_lem}
 use Rattle.segments.proofs.TilesMap.{First, first}
 use Rattle.segments.proofs.Rows.{length_segments}
-use Rattle.segments.proofs.Words.{length_replaced}
+use Rattle.segments.proofs.Written.{length_replaced}
 use Rattle.segments.proofs.Reading.{row_parted}
 use Rattle.segments.proofs.Apart.{apart_from, first_free, last_free, apart_free, apart_first, gap_apart}
 use Rattle.segments.proofs.Parted.{starts_before, starts_from, refilled, Row, row_of}
