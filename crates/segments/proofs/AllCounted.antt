@@ -1,6 +1,6 @@
 -- The rows counted one after the other: what they say of all rows with those that are left, and the figures of all.
 -- Assumes nothing.
-use Rattle.std.proofs.Common.{◌≡◌, ℕ, ◌+◌, ◌-◌, ◌≤◌, max, Bool, true, false, not, eqb, List, [], ◌∷◌, length, get_or, set, sym, refl, ap, ◌∙◌, arith, get_or-set_other, get_or-set_same, eq-eqb, ne_eqb, le-leb}
+use Rattle.std.proofs.Common.{◌≡◌, ℕ, ◌+◌, ◌-◌, ◌≤◌, max, Bool, true, false, not, eqb, List, [], ◌∷◌, length, get_or, set, sym, ◌∙◌, arith, get_or-set_other, get_or-set_same, eq-eqb, ne_eqb, le-leb}
 use Rattle.std.specs.Prelude.{Some, None}
 use Rattle.model.specs.Choose.{both, every, only, total, largest}
 use Rattle.model.specs.Quantities.{Config}

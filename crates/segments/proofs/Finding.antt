@@ -10,7 +10,7 @@ use Rattle.model.proofs.Choosing.{split, tests, parts, every_only, every_weaker,
 use Rattle.model.proofs.Ordered.{Live}
 use Rattle.model.proofs.Offsets.{granule_in, in_granule, granule_before, granule_after}
 use Rattle.segments.specs.Rows.{segment_at, segments_in, blocks_in}
-use Rattle.segments.specs.Tiling.{tiles, is_map}
+use Rattle.segments.specs.Tiling.{tiles, is_map, IsMapWithin}
 use Rattle.segments.specs.Search.{RowOf, Found}
 use Rattle.segments.specs.Changes.{replaced, cut}
 use Rattle.segments.proofs.Reading.{rest, row_parted, row_end, ends_by, tiles_end}
@@ -70,3 +70,7 @@ found_count c n g a ws p b m f l s q =
 -- No row of a map ends after the arena.
 pub row_inside : (c : Config) (n : ℕ) (ws : List ℕ) (i : ℕ) → is_map c (segments_in n ws) ≡ true → i < n → (segment_at ws i).start + (segment_at ws i).length ≤ c.granules
 row_inside c n ws i m h = row_end n c.granules ws i (search parts) h
+
+-- So none ends after the granules that an arena of which the rows are a map has at most.
+pub row_within : (most n : ℕ) (ws : List ℕ) (i : ℕ) (x : Segment) → IsMapWithin most (segments_in n ws) → i < n → x ≡ segment_at ws i → x.start + x.length ≤ most
+row_within most n ws i x m h e = rw e (omega (arith, m.small, row_inside m.arena n ws i m.map h))

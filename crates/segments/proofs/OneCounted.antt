@@ -1,6 +1,6 @@
 -- One row counted: no figure exceeds the granules passed.
 -- Assumes nothing.
-use Rattle.std.proofs.Common.{◌≡◌, ℕ, zero, suc, ◌+◌, ◌-◌, ◌<◌, ◌≤◌, true, false, eqb, List, [], ◌∷◌, length, get_or, set, replicate, sym, refl, subst, arith, length-set, get_or-set_other, get_or-set_same, eq-eqb, ne_eqb, eqb-true}
+use Rattle.std.proofs.Common.{◌≡◌, ℕ, zero, suc, ◌+◌, ◌-◌, ◌<◌, ◌≤◌, false, eqb, List, [], length, get_or, set, replicate, refl, arith, length-set, get_or-set_other, get_or-set_same, eqb-true}
 use Rattle.model.specs.Quantities.{Config}
 use Rattle.model.specs.SegmentMap.{is_free}
 use Rattle.model.proofs.Choosing.{split, tests}

@@ -1,11 +1,11 @@
 -- Rows in use that are replaced by others, as words: what one row set, opened or closed comes to, and one replacement after another.
 -- Assumes nothing.
-use Rattle.std.proofs.Common.{◌≡◌, ℕ, zero, suc, ◌+◌, ◌-◌, ◌*◌, ◌<◌, ◌≤◌, max, List, [], ◌∷◌, ◌++◌, length, take, drop, replicate, sym, refl, ap, ◌∙◌, append_assoc, append-nil, arith, length-append, length-drop, take-append-drop, drop_of_length-le, length-take, length-take-le, take_all, drop-drop, take_at, drop_at}
+use Rattle.std.proofs.Common.{◌≡◌, ℕ, zero, suc, ◌+◌, ◌-◌, ◌*◌, ◌<◌, ◌≤◌, max, List, [], ◌∷◌, ◌++◌, length, take, drop, replicate, sym, refl, ap, ◌∙◌, append_assoc, append-nil, arith, length-append, length-drop, take-append-drop, drop_of_length-le, length-take, length-take-le, drop-drop, take_at, drop_at}
 use lib.ListN.{replicate-append-replicate}
 use lib.Seq.{drop-append-add}
 use Rattle.std.specs.List.{copy_within}
 use Rattle.std.proofs.lemmas.List.{take-append-le, take-take}
-use borrow.Rule.Slice.PartMut.{mid_of, put_mid}
+use borrow.Rule.Slice.PartMut.{put_mid}
 use Rattle.segments.specs.Rows.{words_of, table_of, segment_at, segments_in, with_row, with_rows}
 use Rattle.segments.specs.Changes.{replaced, inserted, removed}
 use Rattle.segments.proofs.Rows.{length_words, length_segments, words_back}

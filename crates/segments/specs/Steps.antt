@@ -1,6 +1,6 @@
 -- What the functions within the crate do, step by step: a caller needs none of it.
 -- Assumes nothing.
-use Rattle.std.specs.Prelude.{ℕ, ◌+◌, ◌-◌, ◌%◌, max, Bool, true, false, not, List, ◌++◌, take, drop, replicate, ◌==◌, nat_le, nat_lt, slice_index, slice_set}
+use Rattle.std.specs.Prelude.{ℕ, ◌+◌, ◌-◌, ◌%◌, max, Bool, true, false, not, List, replicate, ◌==◌, nat_le, nat_lt, slice_index, slice_set}
 use Rattle.model.specs.Choose.{choose, both}
 use Rattle.model.specs.Quantities.{Config}
 use Rattle.model.specs.SegmentMap.{is_free, free_run}

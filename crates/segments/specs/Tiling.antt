@@ -32,5 +32,7 @@ abbrev pub is_map : Config → List Segment → Bool
 is_map c xs = both (tiles 0 c.granules xs) (both (every (well_formed c) xs) (no_two_free xs))
 
 -- Rows are a map of some arena of at most so many granules.
-abbrev pub IsMapWithin : ℕ → List Segment → Type 0
-IsMapWithin most xs = (c : Config) × (c.granules ≤ most) × (is_map c xs ≡ true)
+pub record IsMapWithin (most : ℕ) (xs : List Segment) : Type 0 where
+  pub arena : Config
+  pub small : arena.granules ≤ most
+  pub map : is_map arena xs ≡ true

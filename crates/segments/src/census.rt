@@ -6,7 +6,7 @@ ghost use Rattle.segments.specs.Counting.{Bounded, Counted};
 ghost use Rattle.segments.specs.Steps.{none_counted, follows_of, free_of, live_of};
 
 use crate::row_words::row;
-use model::{granules_with, Segment};
+use model::{Segment, granules_with};
 
 /// The figures of the rows counted: the granule where they end, and whether the last of them is free, which only the pass needs; the granules of the live
 /// blocks and of the longest free run; and for each of owners 1 to 8 the number of its live blocks, and their granules.

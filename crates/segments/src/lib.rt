@@ -13,11 +13,11 @@ mod searching;
 mod words;
 
 pub use bytes::{fill, is_filled, move_bytes};
-pub use census::{take_census, Census};
+pub use census::{Census, take_census};
 pub use cutting::{pieces, split_row};
 pub use editing::{insert_row, remove_row};
 pub use joining::{join_rows, release_row};
 pub use replacing::{refit, replace_row, rows_after_replace};
 pub use row_words::{put_row, row};
-pub use searching::{first_fit, row_of, Place};
+pub use searching::{Place, first_fit, row_of};
 pub use words::{reset, zero_from};

@@ -27,7 +27,11 @@ fn run_from(table: &[u32], i: usize, s: Segment) -> u32
         return s.start;
     }
     let before = row(table, i - 1);
-    if before.owner == 0 { before.start } else { s.start }
+    if before.owner == 0 {
+        before.start
+    } else {
+        s.start
+    }
 }
 
 // Where that run ends.

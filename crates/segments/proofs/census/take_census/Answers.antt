@@ -77,13 +77,13 @@ loop-i-preserved c =
     let t = λ (d : Config) (p : d.granules ≡ c.args.granules) (q : d.guards ≡ c.args.guards). sym c.if-not-is_followed_by.false ∙ c.is_followed_by.ensures d p q in
     elim c.if-s-eq0.branch [
       | then-s-eq0 w ↦ rw (w.k-is, w.count_free.ensures) (record {
-          ahead = free_row _ _ _ _ _ _ _ c.loop-i-test.true c.row-s.ensures v.ahead v.bounded t w.if-s-eq0.true;
-          bounded = free_within _ _ _ _ _ _ _ c.loop-i-test.true c.row-s.ensures v.ahead v.bounded t;
-        })
+        ahead = free_row _ _ _ _ _ _ _ c.loop-i-test.true c.row-s.ensures v.ahead v.bounded t w.if-s-eq0.true;
+        bounded = free_within _ _ _ _ _ _ _ c.loop-i-test.true c.row-s.ensures v.ahead v.bounded t;
+      })
       | else-s-eq0 w ↦ rw (w.k-is, w.count_block.ensures) (record {
-          ahead = live_row _ _ _ _ _ _ _ c.loop-i-test.true c.row-s.ensures v.ahead v.bounded t w.if-s-eq0.false;
-          bounded = live_within _ _ _ _ _ _ _ c.loop-i-test.true c.row-s.ensures v.ahead v.bounded t w.if-s-eq0.false;
-        })
+        ahead = live_row _ _ _ _ _ _ _ c.loop-i-test.true c.row-s.ensures v.ahead v.bounded t w.if-s-eq0.false;
+        bounded = live_within _ _ _ _ _ _ _ c.loop-i-test.true c.row-s.ensures v.ahead v.bounded t w.if-s-eq0.false;
+      })
     ]
 
 -- With no row left.

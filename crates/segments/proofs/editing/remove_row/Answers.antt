@@ -1,8 +1,7 @@
 -- `segments::editing::remove_row` meets its contract: the rows after row `i` moved down, and the last row zeroed.
 -- Assumes nothing.
-use Rattle.std.proofs.Common.{◌≡◌, ℕ, ◌+◌, ◌-◌, ◌*◌, List, length, take, drop, replicate, length-take, length-drop, ap, ◌∙◌, arith}
-use Rattle.std.specs.List.{copy_within}
-use borrow.Rule.Slice.PartMut.{mid_of, put_mid}
+use Rattle.std.proofs.Common.{◌≡◌, ℕ, ◌-◌, ◌*◌, length, take, drop, replicate, length-take, length-drop, ap, ◌∙◌, arith}
+use borrow.Rule.Slice.PartMut.{put_mid}
 use Rattle.segments.proofs.Written.{row_less}
 use Rattle.segments.proofs.editing.remove_row.Goals as goal
 

@@ -4,17 +4,13 @@ use Rattle.std.proofs.Common.{arith}
 use Rattle.segments.proofs.Rewriting.{freed_granules, joined_once, released_first, released_rows}
 use Rattle.segments.proofs.joining.release_row.Goals as goal
 
-pub join_rows-n-requires : goal.join_rows-n-requires
-join_rows-n-requires c =
+pub join_rows-n-requires-clause-granules : goal.join_rows-n-requires-clause-granules
+join_rows-n-requires-clause-granules c =
     let a = c.args in
     let s = c.row-s.ensures in
     let r = c.free_run.ensures in
     let e = c.put_row.ensures in
-    record {
-      in_use = c.requires.in_use;
-      words = omega arith;
-      granules = omega (arith, c.requires.granules, freed_granules a.rows a.table.now c.requires.words a.i c.requires.in_use _ _ _ s r e);
-    }
+    omega (arith, c.requires.granules, freed_granules a.rows a.table.now c.requires.words a.i c.requires.in_use _ _ _ s r e)
 
 pub join_rows-requires : goal.join_rows-requires
 join_rows-requires c =

@@ -4,16 +4,14 @@ use Rattle.std.proofs.Common.{◌≡◌, rules, refl, ap, ◌∙◌, arith}
 use Rattle.std.specs.Prelude.{Some}
 use Rattle.std.specs.Option.{option_map}
 use Rattle.model.proofs.BaseLaws.{at_base}
-use Rattle.segments.proofs.Finding.{row_inside}
+use Rattle.segments.proofs.Finding.{row_within}
 use Rattle.segments.proofs.Around.{refit_stays, refit_goes}
 use Rattle.model.specs.declared.Segment.{Segment}
 use Rattle.segments.proofs.replacing.refit.Goals as goal
 
 pub overflow_add-s : goal.overflow_add-s
 overflow_add-s c =
-    let p = c.requires in
-    let r = ap (λ (x : Segment). x.start) c.row-s.ensures in
-    omega (arith, p.map.1, row_inside p.map.0 _ _ _ p.map.2 p.in_use)
+    omega (arith, row_within _ c.args.rows c.args.table.now c.args.i c.row-s.result c.requires.map c.requires.in_use c.row-s.ensures)
 
 pub returns-then-s-need : goal.returns-then-s-need
 returns-then-s-need c k whole small map live =

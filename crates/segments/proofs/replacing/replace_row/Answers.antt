@@ -6,14 +6,10 @@ use Rattle.segments.proofs.Parted.{map_granules}
 use Rattle.segments.proofs.Replaced.{freed_some, may_cut, replaced_rows}
 use Rattle.segments.proofs.replacing.replace_row.Goals as goal
 
-pub release_row-n-requires : goal.release_row-n-requires
-release_row-n-requires c =
+pub release_row-n-requires-clause-granules : goal.release_row-n-requires-clause-granules
+release_row-n-requires-clause-granules c =
     let r = c.requires.1 in
-    record {
-      in_use = r.in_use;
-      words = r.words;
-      granules = omega (arith, map_granules c.requires.0 (segments_in c.args.rows c.args.table.now) r.map, r.small);
-    }
+    omega (arith, map_granules c.requires.0 (segments_in c.args.rows c.args.table.now) r.map, r.small)
 
 pub row_of-at-requires : goal.row_of-at-requires
 row_of-at-requires c =

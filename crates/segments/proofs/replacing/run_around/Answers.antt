@@ -6,4 +6,4 @@ use Rattle.segments.proofs.replacing.run_around.Goals as goal
 
 pub overflow_sub-to : goal.overflow_sub-to
 overflow_sub-to c =
-    omega (arith, around_bounds c.requires.map.0 c.args.rows c.args.i c.args.table.now c.requires.in_use c.requires.map.2, c.run_from-from.ensures, c.run_to-to.ensures)
+    omega (arith, around_bounds c.requires.map.arena c.args.rows c.args.i c.args.table.now c.requires.in_use c.requires.map.map, c.run_from-from.ensures, c.run_to-to.ensures)
