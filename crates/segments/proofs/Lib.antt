@@ -11,7 +11,6 @@ pub mod Apart
 pub mod Following
 pub mod OneCounted
 pub mod AllCounted
-pub mod Moved
 pub mod Tests
 pub mod Cuts
 pub mod Written

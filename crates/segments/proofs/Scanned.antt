@@ -111,10 +111,6 @@ module _ (c : Config) (g m a : ℕ) (hg : 1 ≤ g) (up : (s : ℕ) → Padded m 
 pub record Passed (g m f n i : ℕ) (ws : List ℕ) : Type 0 where
   pub same : first_hit g m f 0 (segments_in n ws) ≡ first_hit g m f i (rest n i ws)
 
--- There is no row before row 0.
-pub passed_none : (g m f n : ℕ) (ws : List ℕ) → Passed g m f n 0 ws
-passed_none g m f n ws = record { same = refl }
-
 module _ {g m f n i : ℕ} {ws : List ℕ} (p : Passed g m f n i ws) (h : i < n) (x : Segment) (e : x ≡ segment_at ws i) where
   this_row : rest n i ws ≡ x ∷ rest n (i + 1) ws
   this_row = rest_row n i ws h ∙ ap (λ (y : Segment). y ∷ rest n (i + 1) ws) (sym e)

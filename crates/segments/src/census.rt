@@ -22,7 +22,7 @@ pub struct Census {
 
 impl Census {
     // Before the first row.
-    fn none() -> Census
+    fn new() -> Census
         ensures { result ≡ none_counted }
     {
         Census {
@@ -87,7 +87,7 @@ pub fn take_census(table: &[u32], rows: usize, granules: u32, guards: u32) -> Op
     requires guards { guards ≤ 1 }
     ensures { (c : Config) → c.granules ≡ granules → c.guards ≡ guards → Counted c rows table.now result }
 {
-    let mut k = Census::none();
+    let mut k = Census::new();
     for i in 0..rows {
         let s = row(table, i);
         if !k.is_followed_by(s, granules, guards) {

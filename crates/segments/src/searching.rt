@@ -17,12 +17,12 @@ pub struct Place {
 }
 
 /// The row that has a granule, if the rows tile an arena that has it: by halving.
-// A row is four words of the slice, which std's binary search cannot see as one element.
 pub fn row_of(table: &[u32], rows: usize, granule: u32) -> usize
     requires some { 1 ≤ rows }
     requires words { 4 * rows ≤ length table.now }
     ensures { RowOf rows granule table.now result }
 {
+    // Halved by hand: a row is four words of the slice, which std's binary search cannot see as one element.
     let mut low = 0;
     let mut high = rows;
     while 1 < high - low {
@@ -60,6 +60,7 @@ pub fn first_fit(table: &[u32], rows: usize, base: u32, need: u32, align: u32) -
 {
     let unit = align / 16;
     let past = base / 16 % unit;
+    // A rule of the project: the search is a `loop` that ends by `break` with its value.
     let mut i = 0;
     loop {
         if rows <= i {

@@ -52,7 +52,7 @@ module _ (g f n i : ℕ) (ws : List ℕ) (k : Census) (x : Segment) (h : i < n) 
     live_within z = live_bounded (of_granules g f) k x b here (ne_eqb x.owner 0 z)
 
 pub loop-i-init : goal.loop-i-init
-loop-i-init c = rw c.none-k.ensures (record { ahead = λ d p q. begin d _; bounded = none_bounded _ })
+loop-i-init c = rw c.new-k.ensures (record { ahead = λ d p q. begin d _; bounded = none_bounded _ })
 
 pub returns-then-not-is_followed_by : goal.returns-then-not-is_followed_by
 returns-then-not-is_followed_by c =

@@ -6,40 +6,22 @@ use Rattle.segments.proofs.joining.release_row.Goals as goal
 
 pub join_rows-n-requires-clause-granules : goal.join_rows-n-requires-clause-granules
 join_rows-n-requires-clause-granules c =
-    let a = c.args in
-    let s = c.row-s.ensures in
-    let r = c.free_run.ensures in
-    let e = c.put_row.ensures in
-    omega (arith, c.requires.granules, freed_granules a.rows a.table.now c.requires.words a.i c.requires.in_use _ _ _ s r e)
+    let r = c.requires in
+    omega (arith, r.granules, freed_granules c.args.rows c.args.table.now r.words c.args.i r.in_use _ _ _ c.row-s.ensures c.free_run.ensures c.put_row.ensures)
 
 pub join_rows-requires : goal.join_rows-requires
 join_rows-requires c =
-    let a = c.args in
-    let s = c.row-s.ensures in
-    let r = c.free_run.ensures in
-    let e = c.put_row.ensures in
-    let j = c.join_rows-n.ensures in
-    let once = joined_once a.rows a.table.now c.requires.words a.i c.requires.in_use _ _ _ s r e _ _ j in
-    record {
-      in_use = omega (arith, c.requires.in_use, c.if-i-gt0.true);
-      words = omega (arith, c.requires.words);
-      granules = omega (arith, c.requires.granules);
-    }
+    let r = c.requires in
+    let once = joined_once c.args.rows c.args.table.now r.words c.args.i r.in_use _ _ _ c.row-s.ensures c.free_run.ensures c.put_row.ensures _ _ c.join_rows-n.ensures in
+    record { in_use = omega arith; words = omega arith; granules = omega arith }
 
 pub returns-then-i-gt0 : goal.returns-then-i-gt0
 returns-then-i-gt0 c =
-    let a = c.args in
-    let s = c.row-s.ensures in
-    let r = c.free_run.ensures in
-    let e = c.put_row.ensures in
-    let j = c.join_rows-n.ensures in
-    released_rows a.rows a.table.now c.requires.words a.i c.requires.in_use _ _ _ s r e _ _ j (omega (arith, c.if-i-gt0.true)) _ _ c.join_rows.ensures
+    let r = c.requires in
+    released_rows c.args.rows c.args.table.now r.words c.args.i r.in_use _ _ _ c.row-s.ensures c.free_run.ensures c.put_row.ensures _ _ c.join_rows-n.ensures
+    (omega arith) _ _ c.join_rows.ensures
 
 pub returns : goal.returns
 returns c =
-    let a = c.args in
-    let s = c.row-s.ensures in
-    let r = c.free_run.ensures in
-    let e = c.put_row.ensures in
-    let j = c.join_rows-n.ensures in
-    released_first a.rows a.table.now c.requires.words a.i c.requires.in_use _ _ _ s r e _ _ j (omega arith)
+    let r = c.requires in
+    released_first c.args.rows c.args.table.now r.words c.args.i r.in_use _ _ _ c.row-s.ensures c.free_run.ensures c.put_row.ensures _ _ c.join_rows-n.ensures (omega arith)
