@@ -61,7 +61,8 @@ pub fn refit(table: &[u32], rows: usize, i: usize, need: u32) -> Option<u32>
     requires some { 1 ≤ need }
     requires need { need ≤ 4294901759 }
     requires map { IsMapWithin 65536 (segments_in rows table.now) }
-    ensures { (c : Config) → c.base % 16 ≡ 0 → c.granules ≤ 65536 → is_map c (segments_in rows table.now) ≡ true → is_live (segment_at table.now i) ≡ true → result ≡ refit_start c rows i need table.now }
+    ensures { (c : Config) → c.base % 16 ≡ 0 → c.granules ≤ 65536 → is_map c (segments_in rows table.now) ≡ true
+        → is_live (segment_at table.now i) ≡ true → result ≡ refit_start c rows i need table.now }
 {
     let s = row(table, i);
     let to = run_to(table, rows, i, s);
@@ -112,7 +113,8 @@ pub fn rows_after_replace(table: &[u32], rows: usize, i: usize, block: Segment) 
 /// A block put into the place of the one in row i; answers the rows in use.
 pub fn replace_row(table: &mut [u32], rows: usize, i: usize, block: Segment) -> usize
     requires { (c : Config) × Replaceable c rows i block table.old × (4 * rows_of c (insert block (others rows i table.old)) ≤ length table.old) }
-    ensures { (c : Config) → Replaceable c rows i block table.old → Rewritten rows table.old (map_of c (insert block (others rows i table.old))) result table.new }
+    ensures { (c : Config) → Replaceable c rows i block table.old
+        → Rewritten rows table.old (map_of c (insert block (others rows i table.old))) result table.new }
 {
     let n = release_row(table, rows, i);
     let at = row_of(table, n, block.start);

@@ -56,7 +56,8 @@ pub fn first_fit(table: &[u32], rows: usize, base: u32, need: u32, align: u32) -
     requires some { 1 ≤ need }
     requires need { need ≤ 4294967040 }
     requires align { is_alignment align ≡ true }
-    ensures { (c : Config) → c.base ≡ base → c.granules ≤ 4294967295 → is_map c (segments_in rows table.now) ≡ true → Found c rows need align table.now result }
+    ensures { (c : Config) → c.base ≡ base → c.granules ≤ 4294967295 → is_map c (segments_in rows table.now) ≡ true
+        → Found c rows need align table.now result }
 {
     let unit = align / 16;
     let past = base / 16 % unit;
