@@ -29,7 +29,7 @@ use Rattle.model.specs.declared.Totals.{Totals}
 use Rattle.model.specs.declared.Holding.{Holding}
 use Rattle.model.specs.declared.Refusal.{Refusal}
 use Rattle.model.specs.declared.Refusal.TheVariants as refusal
-use Rattle.segments.specs.declared.Census.{Census}
+use Rattle.segments.specs.declared.census.Census.{Census}
 use Rattle.heap.specs.declared.record.Heap.{Heap}
 
 -- An owner's number is at least 1, and less one it is an index of eight.

@@ -3,7 +3,7 @@
 use mathlib.Core.Path.{◌≡◌, refl, sym, ap, ◌∙◌, subst}
 use mathlib.Core.Bool.{true, false}
 use mathlib.Core.List.{List, [], ◌∷◌, ◌++◌}
-use Rattle.std.specs.Prelude.{None, Some, Result, Ok, Err}
+use Rattle.std.specs.Prelude.{Option, None, Some, Result, Ok, Err}
 use Prim.Native.Nat.{ℕ, ◌+◌, ◌*◌, ◌-◌, ◌≤◌, ◌<◌}
 use native.Mathlib.Omega.{arith}
 use lib.ListN.{length}
@@ -22,8 +22,6 @@ use Rattle.segments.specs.Rows.{segment_at, segments_in, blocks_in, Rewritten}
 use Rattle.segments.specs.Tiling.{is_map}
 use Rattle.segments.specs.Search.{Found}
 use Rattle.segments.specs.Changes.{replaced, cut}
-use Rattle.segments.specs.declared.Fit.{Fit}
-use Rattle.segments.specs.declared.Fit.TheVariants as found
 use Rattle.segments.proofs.Finding.{found_cut, found_count}
 use Rattle.heap.specs.Stored.{Stored, handed, store, config_of, state_in}
 use Rattle.heap.specs.Valid.{valid}
@@ -37,7 +35,7 @@ use Rattle.model.specs.declared.Segment.{Segment}
 use Rattle.model.specs.declared.Refusal.{Refusal}
 use Rattle.model.specs.declared.Refusal.TheVariants as refusal
 use Rattle.heap.specs.declared.record.Heap.{Heap}
-use Rattle.heap.specs.declared.allocating.Place.{Place}
+use Rattle.segments.specs.declared.searching.Place.{Place}
 
 -- 7 and 8, decided by what first fit says, of a valid heap and an allocation whose numbers are proper.
 module _ (r : Heap) (ws : List ℕ) (o n a : ℕ) where
@@ -46,39 +44,39 @@ module _ (r : Heap) (ws : List ℕ) (o n a : ℕ) where
 
   module _ (v : valid r ws ≡ true) (p : first_reason (request_order o n a) ≡ None) where
     -- What it says.
-    module _ (g : ℕ) (size : g ≡ needed (config_of r) n) (f : Fit)
+    module _ (g : ℕ) (size : g ≡ needed (config_of r) n) (f : Option Place)
         (w : (c : Config) → c.base ≡ r.base → c.granules ≤ 4294967295 → is_map c (segments_in r.rows ws) ≡ true → Found c r.rows g a ws f) where
       here : Found (config_of r) r.rows (needed (config_of r) n) a ws f
       here =
           subst (λ (k : ℕ). Found (config_of r) r.rows k a ws f) size
           (w (config_of r) refl (omega (arith, (bounds r ws v).granules)) (valid_map r ws v))
 
-      pub no_place_lem : f ≡ found.Nothing → first_reason last ≡ Some refusal.NoPlace
-      no_place_lem q = let z : Found (config_of r) r.rows (needed (config_of r) n) a ws found.Nothing = subst (Found (config_of r) r.rows (needed (config_of r) n) a ws) q here in rw z.lowest
+      pub no_place_lem : f ≡ None → first_reason last ≡ Some refusal.NoPlace
+      no_place_lem q = let z : Found (config_of r) r.rows (needed (config_of r) n) a ws None = subst (Found (config_of r) r.rows (needed (config_of r) n) a ws) q here in rw z.lowest
 
-      module _ (i s : ℕ) (q : f ≡ found.At i s) where
-        at : Found (config_of r) r.rows (needed (config_of r) n) a ws (found.At i s)
+      module _ (p' : Place) (q : f ≡ Some p') where
+        at : Found (config_of r) r.rows (needed (config_of r) n) a ws (Some p')
         at = subst (Found (config_of r) r.rows (needed (config_of r) n) a ws) q here
 
-        pub lowest_at : Lowest r ws n a i s
+        pub lowest_at : Lowest r ws n a p'.row p'.start
         lowest_at = record { lowest = at.lowest; room = at.room }
 
         abbrev asked : Segment
-        asked = block (config_of r) o n s
+        asked = block (config_of r) o n p'.start
 
-        module _ (x b : Segment) (row : x ≡ segment_at ws i) (is : b ≡ asked) (k : ℕ) (pieces : k ≡ length (cut x b)) where
+        module _ (x b : Segment) (row : x ≡ segment_at ws p'.row) (is : b ≡ asked) (k : ℕ) (pieces : k ≡ length (cut x b)) where
           count : rows_of (config_of r) (insert asked (blocks_in r.rows ws)) ≡ r.rows - 1 + k
           count =
               let l : Proper o n a = proper o n a (no_reason (request_order o n a) p) in
-              found_count (config_of r) r.rows (needed (config_of r) n) a ws i s asked (valid_map r ws v) at
+              found_count (config_of r) r.rows (needed (config_of r) n) a ws p' asked (valid_map r ws v) at
               (record { owned = l.owned; known = l.known; requested = l.size; sized = refl }) refl refl
               ∙ ap (λ (k : ℕ). r.rows - 1 + k) (sym (pieces ∙ (λ j. length (cut (row j) (is j)))))
 
           pub table_full_lem : r.capacity < r.rows - 1 + k → first_reason last ≡ Some refusal.TableFull
-          table_full_lem h = rw (fit_at (config_of r) (state_in r ws) o n a s at.lowest, lt-ltb r.capacity (rows_of (config_of r) (insert asked (blocks_in r.rows ws))) (omega (arith, count)))
+          table_full_lem h = rw (fit_at (config_of r) (state_in r ws) o n a p'.start at.lowest, lt-ltb r.capacity (rows_of (config_of r) (insert asked (blocks_in r.rows ws))) (omega (arith, count)))
 
-          pub place_there : r.rows - 1 + k ≤ r.capacity → Decided last r ws n a (Ok (record { row = i; start = s }))
-          place_there h = (rw (fit_at (config_of r) (state_in r ws) o n a s at.lowest, le-ltb r.capacity (rows_of (config_of r) (insert asked (blocks_in r.rows ws))) (omega (arith, count))), lowest_at)
+          pub place_there : r.rows - 1 + k ≤ r.capacity → Decided last r ws n a (Ok p')
+          place_there h = (rw (fit_at (config_of r) (state_in r ws) o n a p'.start at.lowest, le-ltb r.capacity (rows_of (config_of r) (insert asked (blocks_in r.rows ws))) (omega (arith, count))), lowest_at)
 
 module _ (r : Heap) (ws bytes : List ℕ) (o n a : ℕ) where
   abbrev whole : Order Refusal
@@ -181,7 +179,7 @@ module _ (r : Heap) (ws bytes : List ℕ) (o n a : ℕ) where
           subst (λ (x : Segment). rows_of (config_of r) (insert x (blocks_in r.rows ws)) ≤ r.capacity)
           (ap (block (config_of r) o n) start_is ∙ sym (is (config_of r) refl)) granted.rows
 
-      at_row : Found (config_of r) r.rows (needed (config_of r) n) a ws (found.At i s)
+      at_row : Found (config_of r) r.rows (needed (config_of r) n) a ws (Some place)
       at_row = record { lowest = d.1.lowest; room = d.1.room }
 
       -- It ends in the arena.
@@ -195,7 +193,7 @@ module _ (r : Heap) (ws bytes : List ℕ) (o n a : ℕ) where
         d.1.room.in_use,
         omega (arith, inside, begins, bounded.granules),
         omega (arith, bounded.row i d.1.room.in_use, bounded.granules),
-        omega (arith, found_count (config_of r) r.rows (needed (config_of r) n) a ws i s b (valid_map r ws checked) at_row live begins length_is, rows_few, bounded.words),
+        omega (arith, found_count (config_of r) r.rows (needed (config_of r) n) a ws place b (valid_map r ws checked) at_row live begins length_is, rows_few, bounded.words),
       )
 
       -- The sums that are taken fit a word.
@@ -220,7 +218,7 @@ module _ (r : Heap) (ws bytes : List ℕ) (o n a : ℕ) where
 
       module _ (m : ℕ) (after : List ℕ) (w : Rewritten r.rows ws (replaced i 1 (cut (segment_at ws i) b) (segments_in r.rows ws)) m after) where
         map_is : replaced i 1 (cut (segment_at ws i) b) (segments_in r.rows ws) ≡ map_of (config_of r) (insert b (blocks_in r.rows ws))
-        map_is = found_cut (config_of r) r.rows (needed (config_of r) n) a ws i s b (valid_map r ws checked) at_row live begins length_is
+        map_is = found_cut (config_of r) r.rows (needed (config_of r) n) a ws place b (valid_map r ws checked) at_row live begins length_is
 
         pub rows_fit : m ≤ 4294967295
         rows_fit = omega (arith, w.rows, ap length map_is, rows_few, bounded.capacity)

@@ -24,7 +24,7 @@ use Rattle.model.proofs.Refitted.{refitted_at, free_refuses, size_decides}
 use Rattle.model.proofs.Resizing.{owner_without}
 use Rattle.segments.specs.Rows.{segment_at, segments_in, blocks_in}
 use Rattle.segments.specs.Tiling.{is_map}
-use Rattle.segments.specs.Search.{start_of, others, refit_start}
+use Rattle.segments.specs.Search.{others, refit_start}
 use Rattle.segments.specs.Changes.{Replaceable}
 use Rattle.segments.proofs.MapTiles.{live_formed, owner_not_0}
 use Rattle.segments.proofs.TilesMap.{map_charged}
@@ -38,9 +38,7 @@ use Rattle.heap.proofs.Frees.{BlockRow, row_found, row_live, row_at, free_invali
 use Rattle.model.specs.declared.Segment.{Segment}
 use Rattle.model.specs.declared.Refusal.{Refusal}
 use Rattle.model.specs.declared.Refusal.TheVariants as refusal
-use Rattle.segments.specs.declared.Census.{Census}
-use Rattle.segments.specs.declared.Fit.{Fit}
-use Rattle.segments.specs.declared.Fit.TheVariants as found
+use Rattle.segments.specs.declared.census.Census.{Census}
 use Rattle.heap.specs.declared.record.Heap.{Heap}
 use Rattle.heap.specs.declared.freeing.Found.{Found}
 use Rattle.heap.specs.declared.resizing.Refitted.{Refitted}
@@ -108,21 +106,21 @@ module _ (r : Heap) (ws : List ℕ) (v : valid r ws ≡ true) (o : ℕ) (known :
             (rw (e, le-ltb r.capacity (rows_of (config_of r) (insert (block (config_of r) o n s) (without x blocks))) (omega (arith, rows_are))), record { old = here; new = e })
 
     -- What the search says.
-    module _ (g : ℕ) (size : g ≡ needed (config_of r) n) (f : Fit)
-        (w : (c : Config) → c.base % 16 ≡ 0 → c.granules ≤ 65536 → is_map c (segments_in r.rows ws) ≡ true → is_live (segment_at ws i) ≡ true → start_of f ≡ refit_start c r.rows i g ws) where
-      found_is : refit (config_of r) blocks o x n ≡ given (start_of f) None (λ s. Some (block (config_of r) o n s))
+    module _ (g : ℕ) (size : g ≡ needed (config_of r) n) (f : Option ℕ)
+        (w : (c : Config) → c.base % 16 ≡ 0 → c.granules ≤ 65536 → is_map c (segments_in r.rows ws) ≡ true → is_live (segment_at ws i) ≡ true → f ≡ refit_start c r.rows i g ws) where
+      found_is : refit (config_of r) blocks o x n ≡ given f None (λ s. Some (block (config_of r) o n s))
       found_is =
           refit_is
           ∙ ap (λ (t : Option ℕ). given t None (λ s. Some (block (config_of r) o n s)))
           (sym (w (config_of r) bounded.base bounded.granules (valid_map r ws v) (row_live b) ∙ ap (λ (k : ℕ). refit_start (config_of r) r.rows i k ws) size))
 
       -- 7: there is no place,
-      pub replace_nowhere : f ≡ found.Nothing → first_reason (replace_order (config_of r) (state_in r ws) o x n) ≡ Some refusal.NoPlace
-      replace_nowhere q = rw (found_is ∙ ap (λ (f : Fit). given (start_of f) None (λ s. Some (block (config_of r) o n s))) q)
+      pub replace_nowhere : f ≡ None → first_reason (replace_order (config_of r) (state_in r ws) o x n) ≡ Some refusal.NoPlace
+      replace_nowhere q = rw (found_is ∙ ap (λ (f : Option ℕ). given f None (λ s. Some (block (config_of r) o n s))) q)
 
       -- or there is this one.
-      pub refit_at : (j s : ℕ) → f ≡ found.At j s → refit (config_of r) blocks o x n ≡ Some (block (config_of r) o n s)
-      refit_at j s q = found_is ∙ ap (λ (f : Fit). given (start_of f) None (λ s. Some (block (config_of r) o n s))) q
+      pub refit_at : (s : ℕ) → f ≡ Some s → refit (config_of r) blocks o x n ≡ Some (block (config_of r) o n s)
+      refit_at s q = found_is ∙ ap (λ (f : Option ℕ). given f None (λ s. Some (block (config_of r) o n s))) q
 
     -- 6, by the figures that were counted.
     module _ (k : Census) (e : Examination r ws k) (owned : was.block.owner ≡ o) where

@@ -15,9 +15,9 @@ use Rattle.heap.specs.Valid.{valid}
 use Rattle.model.specs.declared.Segment.{Segment}
 use Rattle.model.specs.declared.Refusal.{Refusal}
 use Rattle.model.specs.declared.Refusal.TheVariants as refusal
-use Rattle.segments.specs.declared.Census.{Census}
+use Rattle.segments.specs.declared.census.Census.{Census}
 use Rattle.heap.specs.declared.record.Heap.{Heap}
-use Rattle.heap.specs.declared.allocating.Place.{Place}
+use Rattle.segments.specs.declared.searching.Place.{Place}
 use Rattle.heap.specs.declared.freeing.Found.{Found}
 use Rattle.heap.specs.declared.resizing.Refitted.{Refitted}
 

@@ -13,14 +13,7 @@ ghost use Rattle.heap.specs.Steps.{Examined, Decided};
 use crate::ranges::{is_alignment, is_owner};
 use crate::record::{Heap, Outcome};
 use model::{Refusal, Segment, granules_with};
-use segments::{Census, Fit, first_fit, pieces, row, split_row};
-
-/// Where a block is to begin. The row is the one that is cut for it.
-#[derive(Clone, Copy, Debug, PartialEq, Eq)]
-pub(crate) struct Place {
-    pub row: usize,
-    pub start: u32,
-}
+use segments::{Census, Place, first_fit, pieces, row, split_row};
 
 /// 2, 3, 4: what is asked of an allocation's numbers alone.
 fn check_request(owner: u32, size: u32, align: u32) -> Result<(), Refusal>
@@ -84,16 +77,15 @@ impl Heap {
     {
         let rows = self.rows as usize;
         let need = granules_with(size, self.guards);
-        let fit = first_fit(table, rows, self.base, need, align);
-        let Fit::At { row: i, start } = fit else {
+        let Some(at) = first_fit(table, rows, self.base, need, align) else {
             return Err(Refusal::NoPlace);
         };
-        let s = row(table, i);
-        let wanted = new_block(owner, size, start, self.guards);
+        let s = row(table, at.row);
+        let wanted = new_block(owner, size, at.start, self.guards);
         if (self.capacity as usize) < rows - 1 + pieces(s, wanted) {
             return Err(Refusal::TableFull);
         }
-        Ok(Place { row: i, start })
+        Ok(at)
     }
 
     /// Decides an allocation: 1, 11 in a heap with guards, 2, 3, 4, 5, 6, 7, 8, or its place.

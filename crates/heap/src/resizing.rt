@@ -16,7 +16,7 @@ use crate::allocating::{exceeds, new_block};
 use crate::freeing::Found;
 use crate::record::{Heap, Outcome};
 use model::{Refusal, Resized, Segment, granules_with};
-use segments::{Census, Fit, move_bytes, refit, replace_row, rows_after_replace};
+use segments::{Census, move_bytes, refit, replace_row, rows_after_replace};
 
 /// A block that is resized, and where it is to begin.
 #[derive(Clone, Copy, Debug, PartialEq, Eq)]
@@ -41,8 +41,8 @@ impl Heap {
         ensures { (x : ℕ) → IsBlock self table.now x old → ResizeDecided (replace_order (config_of self) (state_in self table.now) owner x size) self table.now owner x size result }
     {
         let rows = self.rows as usize;
-        let fit = refit(table, rows, old.row, granules_with(size, self.guards));
-        let Fit::At { row: _, start } = fit else {
+        let need = granules_with(size, self.guards);
+        let Some(start) = refit(table, rows, old.row, need) else {
             return Err(Refusal::NoPlace);
         };
         let wanted = new_block(owner, size, start, self.guards);

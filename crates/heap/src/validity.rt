@@ -60,10 +60,9 @@ impl Heap {
         if !self.is_framed(table) {
             return Err(Refusal::InvalidHeap);
         }
-        let k = take_census(table, self.rows as usize, self.granules, self.guards);
-        if !k.ok {
+        let Some(k) = take_census(table, self.rows as usize, self.granules, self.guards) else {
             return Err(Refusal::InvalidHeap);
-        }
+        };
         if !self.agrees(table, k) {
             return Err(Refusal::InvalidHeap);
         }

@@ -17,4 +17,4 @@ pub returns : goal.returns
 returns c =
     let n : length c.args.quotas.now ≡ 8 = search rules in
     rw n (all_from_yields_List (λ x. nat_le x c.args.most) _ _ c.all.result c.all.ensures.ran (YieldsList-from_slice _ c.iter.ensures.rest) (λ x b q k. search rules)
-        ∙ (λ i. list_all (λ x. from_0 c.args.most x i) c.args.quotas.now))
+    ∙ (λ i. list_all (λ x. from_0 c.args.most x i) c.args.quotas.now))

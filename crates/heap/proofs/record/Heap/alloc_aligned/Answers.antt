@@ -12,7 +12,8 @@ new_block-block-requires c =
 pub split_row-rows-requires : goal.split_row-rows-requires
 split_row-rows-requires c =
     let a = c.args in
-    row_asked a.self a.table.now a.arena.now a.owner a.size a.align c.find_place-place.result c.find_place-place.ensures _ c.in-Ok.is _ c.new_block-block.ensures
+    let r = row_asked a.self a.table.now a.arena.now a.owner a.size a.align c.find_place-place.result c.find_place-place.ensures _ c.in-Ok.is _ c.new_block-block.ensures in
+    record { in_use = r.0; block = r.1; row = r.2; words = r.3 }
 
 pub fill_guard-requires : goal.fill_guard-requires
 fill_guard-requires c =
@@ -39,5 +40,5 @@ pub returns-in-Ok : goal.returns-in-Ok
 returns-in-Ok c =
     let a = c.args in
     let d = alloc_done a.self a.table.now a.arena.now a.owner a.size a.align c.find_place-place.result c.find_place-place.ensures _ c.in-Ok.is _ c.new_block-block.ensures _ _ c.split_row-rows.ensures
-        _ _ c.updated.ensures (omega arith) _ (omega arith) _ c.fill_guard.ensures in
+    _ _ c.updated.ensures (omega arith) _ (omega arith) _ c.fill_guard.ensures in
     record { answer = d.answer; numbered = d.numbered; heap = d.heap; table = d.table; arena = d.arena }

@@ -11,7 +11,7 @@ use Rattle.heap.proofs.record.Heap.find_owned.Goals as goal
 
 pub row_of-i-requires : goal.row_of-i-requires
 row_of-i-requires c =
-    let b = bounds _ _ c.requires in (b.rows_least, omega (arith, b.words, b.rows_most))
+    let b = bounds _ _ c.requires in record { some = b.rows_least; words = omega (arith, b.words, b.rows_most) }
 
 pub row-block-requires : goal.row-block-requires
 row-block-requires c = row_words _ _ c.requires _ c.row_of-i.ensures.in_use

@@ -15,7 +15,7 @@ pub release_row-rows-requires : goal.release_row-rows-requires
 release_row-rows-requires c =
     let f = free_found _ _ _ _ _ _ c.find_freed-freed.ensures _ c.in-Ok.is in
     let b = bounds _ _ f.0 in
-    (f.1, omega (arith, b.words, b.rows_most), omega (arith, b.whole))
+    record { in_use = f.1; words = omega (arith, b.words, b.rows_most); granules = omega (arith, b.whole) }
 
 pub overflow_sub-self : goal.overflow_sub-self
 overflow_sub-self c = omega (arith, free_left _ _ _ _ _ _ c.find_freed-freed.ensures _ c.in-Ok.is)
@@ -26,5 +26,5 @@ updated-requires c = omega (arith, free_rows _ _ _ _ _ _ c.find_freed-freed.ensu
 pub returns-in-Ok : goal.returns-in-Ok
 returns-in-Ok c =
     let d = free_row _ _ _ _ _ _ c.find_freed-freed.ensures _ c.in-Ok.is _ _ c.release_row-rows.ensures
-        _ _ c.updated.ensures (omega (arith, free_left _ _ _ _ _ _ c.find_freed-freed.ensures _ c.in-Ok.is)) _ (omega arith) _ _ c.fill.ensures (omega arith) in
+    _ _ c.updated.ensures (omega (arith, free_left _ _ _ _ _ _ c.find_freed-freed.ensures _ c.in-Ok.is)) _ (omega arith) _ _ c.fill.ensures (omega arith) in
     record { answer = d.answer; numbered = d.numbered; heap = d.heap; table = d.table; arena = d.arena }

@@ -17,18 +17,18 @@ pub granules_with-need-requires : goal.granules_with-need-requires
 granules_with-need-requires c =
     (bounds c.args.self c.args.table.now c.requires.valid).guards
 
-pub first_fit-fit-requires : goal.first_fit-fit-requires
-first_fit-fit-requires c =
+pub first_fit-requires : goal.first_fit-requires
+first_fit-requires c =
     let a = c.args in
     let b = bounds a.self a.table.now c.requires.valid in
     let l = proper a.owner a.size a.align (no_reason (request_order a.owner a.size a.align) c.requires.proper) in
-    (omega (arith, b.words, b.rows_most), b.base, omega arith, omega arith, l.alignment)
+    record { words = omega (arith, b.words, b.rows_most); base = b.base; some = omega arith; need = omega arith; align = l.alignment }
 
 pub row-s-requires : goal.row-s-requires
 row-s-requires c =
     let a = c.args in
     let b = bounds a.self a.table.now c.requires.valid in
-    let at = lowest_at a.self a.table.now a.owner a.size a.align c.requires.valid c.requires.proper _ c.granules_with-need.ensures _ c.first_fit-fit.ensures _ _ c.in-At.is in
+    let at = lowest_at a.self a.table.now a.owner a.size a.align c.requires.valid c.requires.proper _ c.granules_with-need.ensures _ c.first_fit.ensures _ c.in-Some.is in
     omega (arith, b.words, b.rows_most, at.room.in_use)
 
 pub new_block-wanted-requires : goal.new_block-wanted-requires
@@ -43,25 +43,25 @@ pub pieces-requires : goal.pieces-requires
 pieces-requires c =
     let a = c.args in
     let b = bounds a.self a.table.now c.requires.valid in
-    let at = lowest_at a.self a.table.now a.owner a.size a.align c.requires.valid c.requires.proper _ c.granules_with-need.ensures _ c.first_fit-fit.ensures _ _ c.in-At.is in
+    let at = lowest_at a.self a.table.now a.owner a.size a.align c.requires.valid c.requires.proper _ c.granules_with-need.ensures _ c.first_fit.ensures _ c.in-Some.is in
     let row = ap (λ (x : Segment). x.start + x.length) c.row-s.ensures in
     let block = ap (λ (x : Segment). x.start + x.length) (c.new_block-wanted.ensures (config_of a.self) refl) in
     let end = b.row _ at.room.in_use in
-    (omega (arith, block, end, at.room.up_to, b.granules), omega (arith, row, end, b.granules))
+    record { block = omega (arith, block, end, at.room.up_to, b.granules); row = omega (arith, row, end, b.granules) }
 
 pub returns-in_default : goal.returns-in_default
 returns-in_default c =
     let a = c.args in
-    no_place_lem a.self a.table.now a.owner a.size a.align c.requires.valid c.requires.proper _ c.granules_with-need.ensures _ c.first_fit-fit.ensures (search rules)
+    no_place_lem a.self a.table.now a.owner a.size a.align c.requires.valid c.requires.proper _ c.granules_with-need.ensures _ c.first_fit.ensures (search rules)
 
 pub returns-then-self-rows : goal.returns-then-self-rows
 returns-then-self-rows c =
     let a = c.args in
-    table_full_lem a.self a.table.now a.owner a.size a.align c.requires.valid c.requires.proper _ c.granules_with-need.ensures _ c.first_fit-fit.ensures _ _ c.in-At.is
-    _ _ c.row-s.ensures (c.new_block-wanted.ensures (config_of a.self) refl) _ c.pieces.ensures.0 (omega arith)
+    table_full_lem a.self a.table.now a.owner a.size a.align c.requires.valid c.requires.proper _ c.granules_with-need.ensures _ c.first_fit.ensures _ c.in-Some.is
+    _ _ c.row-s.ensures (c.new_block-wanted.ensures (config_of a.self) refl) _ c.pieces.ensures.answer (omega arith)
 
 pub returns : goal.returns
 returns c =
     let a = c.args in
-    place_there a.self a.table.now a.owner a.size a.align c.requires.valid c.requires.proper _ c.granules_with-need.ensures _ c.first_fit-fit.ensures _ _ c.in-At.is
-    _ _ c.row-s.ensures (c.new_block-wanted.ensures (config_of a.self) refl) _ c.pieces.ensures.0 (omega arith)
+    place_there a.self a.table.now a.owner a.size a.align c.requires.valid c.requires.proper _ c.granules_with-need.ensures _ c.first_fit.ensures _ c.in-Some.is
+    _ _ c.row-s.ensures (c.new_block-wanted.ensures (config_of a.self) refl) _ c.pieces.ensures.answer (omega arith)
