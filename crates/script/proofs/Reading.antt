@@ -54,10 +54,12 @@ module _ {F : Type 0} (g : Mut F (Bor ℕ × Unit {0}) Bool) (p : ℕ → Bool) 
   pub next_part : (s t : _) (r : Option (Bor (List ℕ))) → split_steps g s r t → ComputesKey g p (split_callee s)
       → ComputesKey g p (split_callee t) × ((k : ℕ) → firsts (suc k) (left (split_done s) (split_rest s)) ≡ option_map (λ f. f.now) r ∷ firsts k (left (split_done t) (split_rest t)))
   next_part s t None h c = (subst (λ u. ComputesKey g p (split_callee u)) (sym h.1) c, λ k. rw (h.1, h.0))
-  next_part s t (Some x) h c =
-      ((h.2 p c).0, λ k.
-      ap (λ b. firsts (suc k) (cond b [] (slice_split p (split_rest s)))) h.0
-      ∙ ap (firsts (suc k)) (part_first p _ x.now _ (split_done t) h.1 (h.2 p c).1))
+  next_part s t (Some x) h c = (
+    (h.2 p c).0,
+    λ k.
+        ap (λ b. firsts (suc k) (cond b [] (slice_split p (split_rest s)))) h.0
+        ∙ ap (firsts (suc k)) (part_first p _ x.now _ (split_done t) h.1 (h.2 p c).1),
+  )
 
   -- A closure that stays as it is computes p at each call.
   pub same_test : (f : F) → ((x : ℕ) (b : Bool) (q : F) → CalledAt g f x b q → (q ≡ f) × (b ≡ p x)) → ComputesKey g p f
@@ -86,9 +88,10 @@ newline_some l n e =
     split (ltb (position_or_len (λ b. eqb b 10) l) (length l))
     (λ q.
     let z : Some (position_or_len (λ b. eqb b 10) l) ≡ Some n = rw q at e in
-    let y : position_or_len (λ b. eqb b 10) l ≡ n = cc in
-    (omega tests,
-    pieces_split 10 l ∙ slice_split_first (λ b. eqb b 10) l 0 (omega tests) ∙ rw y (ap (λ fs. take n l ∷ fs) (sym (pieces_split 10 (drop (n + 1) l))))))
+    let y : position_or_len (λ b. eqb b 10) l ≡ n = cc in (
+      omega tests,
+      pieces_split 10 l ∙ slice_split_first (λ b. eqb b 10) l 0 (omega tests) ∙ rw y (ap (λ fs. take n l ∷ fs) (sym (pieces_split 10 (drop (n + 1) l)))),
+    ))
     (λ q. let z : None ≡ Some n = rw q at e in let y : ◌≡◌ {A = ℕ} 0 1 = cc in absurd (omega arith))
 
 -- What a number is.

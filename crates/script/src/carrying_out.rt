@@ -97,7 +97,14 @@ impl Script {
     {
         let n = (4 * self.heap.capacity as usize).min(table.len());
         let k = (16 * self.heap.granules as usize).min(arena.len());
-        let out = heap::alloc_aligned(self.heap, &mut table[..n], &mut arena[..k], owner, size, align);
+        let out = heap::alloc_aligned(
+            self.heap,
+            &mut table[..n],
+            &mut arena[..k],
+            owner,
+            size,
+            align,
+        );
         self.heap = out.heap;
         out.answer
     }
@@ -145,7 +152,8 @@ impl Script {
                 self.make(table, arena, bytes, rows).map_err(Why::Make)
             }
             Command::Ask { owner, size, align } => {
-                self.ask(table, arena, owner, size, align).map_err(Why::Call)
+                self.ask(table, arena, owner, size, align)
+                    .map_err(Why::Call)
             }
             Command::Back { owner, offset } => {
                 self.back(table, arena, owner, offset).map_err(Why::Call)

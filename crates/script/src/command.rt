@@ -33,7 +33,13 @@ fn command_of(line: &[u8]) -> Option<Command>
     ensures { result ≡ command_of (fields_of line.now) }
 {
     match fields_of(line) {
-        [Some(b"limit"), Some(owner), Some(granules), Some(blocks), None] => Some(Command::Limit {
+        [
+            Some(b"limit"),
+            Some(owner),
+            Some(granules),
+            Some(blocks),
+            None,
+        ] => Some(Command::Limit {
             owner: number_in(owner)?,
             granules: number_in(granules)?,
             blocks: number_in(blocks)?,

@@ -61,13 +61,7 @@ impl Session {
 
     /// Answers each line that ends in a part of the input, and holds what is begun of the next. Of the part as many bytes are taken as the answers have room
     /// for: all with 14 bytes of buffer for each, none with fewer than 14 bytes of buffer.
-    pub fn feed(
-        &mut self,
-        table: &mut [u32],
-        arena: &mut [u8],
-        input: &[u8],
-        out: &mut [u8],
-    ) -> Fed
+    pub fn feed(&mut self, table: &mut [u32], arena: &mut [u8], input: &[u8], out: &mut [u8]) -> Fed
         ensures { FeedDone self.old table.old arena.old input.now out.old result self.new table.new arena.new out.new }
     {
         let taken = input.len().min(out.len() / 14);
@@ -103,12 +97,7 @@ impl Session {
 
     /// The end of the input: answers what is held, a line without its newline, puts the rows and the totals, and says how many bytes were put. `None`, and
     /// nothing is done, with a buffer of fewer than 25,664 bytes, the most that these can need.
-    pub fn finish(
-        mut self,
-        table: &mut [u32],
-        arena: &mut [u8],
-        out: &mut [u8],
-    ) -> Option<usize>
+    pub fn finish(mut self, table: &mut [u32], arena: &mut [u8], out: &mut [u8]) -> Option<usize>
         ensures { FinishDone self table.old arena.old out.old result table.new arena.new out.new }
     {
         if out.len() < 25664 {
