@@ -4,7 +4,7 @@ use mathlib.Core.Path.{◌≡◌, refl, sym, ap, ◌∙◌}
 use mathlib.Core.List.{List, [], ◌∷◌, ◌++◌, append_assoc, append-nil}
 use Rattle.std.specs.Prelude.{Option, None, Some}
 use Rattle.std.specs.List.{position}
-use Prim.Native.Nat.{ℕ, ◌+◌, ◌-◌, ◌*◌, ◌≤◌, ◌<◌}
+use Prim.Native.Nat.{ℕ, ◌+◌, ◌*◌, ◌≤◌}
 use native.Mathlib.Omega.{arith}
 use lib.Dec.{eqb}
 use lib.ListN.{length, take, drop, length-append, length-drop}
@@ -12,13 +12,12 @@ use lib.Seq.{sets, length-take-le}
 use Rattle.script.specs.Text.{pieces, ended, unended, at_front}
 use Rattle.script.specs.Commands.{read_line, answer_line}
 use Rattle.script.specs.Machine.{Machine, machine, answer_to, after}
-use Rattle.script.specs.Session.{answers_to, after_lines, most_held, held, held_bytes, pieces_with, taken_of}
+use Rattle.script.specs.Session.{answers_to, after_lines, held, pieces_with, taken_of}
 use Rattle.script.specs.Promises.{fed_pieces, fed_text, FeedDone}
 use Rattle.script.specs.Steps.{Put, held_with}
 use Rattle.script.proofs.Lists.{sets_append, sets_front, front_counts}
 use Rattle.script.proofs.Reading.{newline_none, newline_some}
 use Rattle.script.proofs.Parts.{prefixed_none, ended_more, unended_more}
-use Rattle.script.specs.declared.carrying_out.Script.{Script}
 use Rattle.script.specs.declared.session.Session.{Session}
 use Rattle.script.specs.declared.session.Fed.{Fed}
 use Rattle.script.specs.declared.held.Held.{Held}

@@ -1,10 +1,10 @@
 -- The end of an input: what is held is answered, and the rows and the totals come after it.
 -- Assumes nothing.
-use mathlib.Core.Path.{◌≡◌, refl, sym, ◌∙◌, subst}
+use mathlib.Core.Path.{◌≡◌, refl, ◌∙◌, subst}
 use mathlib.Core.Bool.{true, false}
 use mathlib.Core.List.{List, [], ◌∷◌, ◌++◌, append-nil}
 use Rattle.std.specs.Prelude.{Option, None, Some}
-use Prim.Native.Nat.{ℕ, ◌+◌, ◌≤◌, ◌<◌}
+use Prim.Native.Nat.{ℕ, ◌≤◌, ◌<◌}
 use native.Mathlib.Omega.{arith}
 use lib.Dec.{leb}
 use borrow.Author.Tests.{le-leb, lt-leb}
@@ -12,7 +12,7 @@ use Rattle.model.proofs.Choosing.{split}
 use lib.ListN.{length, take, length-take}
 use Rattle.script.specs.Text.{unless_empty, at_front}
 use Rattle.script.specs.Commands.{read_line, answer_line}
-use Rattle.script.specs.Machine.{Machine, machine, answer_to, after, closing}
+use Rattle.script.specs.Machine.{Machine, machine, answer_to, closing}
 use Rattle.script.specs.Session.{answers_to, after_lines, held}
 use Rattle.script.specs.Promises.{WriteDone, end_most, last_lines, FinishDone}
 use Rattle.script.specs.Steps.{Put}

@@ -4,12 +4,11 @@ use borrow.Rule.Slice.PartMut.{put_mid}
 use Rattle.std.proofs.lemmas.Slice.{put_mid-paste}
 use mathlib.Core.Path.{◌≡◌, refl, sym, ap, ◌∙◌}
 use mathlib.Core.List.{List, [], ◌∷◌, ◌++◌}
-use Prim.Native.Nat.{ℕ, suc, ◌+◌, ◌-◌, ◌≤◌, ◌<◌, min}
+use Prim.Native.Nat.{ℕ, suc, ◌+◌, ◌-◌, ◌≤◌, min}
 use native.Mathlib.Omega.{arith}
-use native.Mathlib.Numerals.{add-one}
 use lib.Dec.{leb}
-use lib.ListN.{length, get_or, set, take, drop, length-append, length-drop, drop_of_length-le}
-use lib.Seq.{sets, sets-eq, take_all, take-length, take-suc, take-add, take-take, take-append_seam, drop-length, drop_at, length-take-le}
+use lib.ListN.{length, set, take, drop, length-append, length-drop, drop_of_length-le}
+use lib.Seq.{sets, sets-eq, take_all, take-length, take-append_seam, drop-length, length-take-le}
 use Rattle.model.proofs.Choosing.{split, tests}
 use Rattle.script.specs.Text.{at_front}
 

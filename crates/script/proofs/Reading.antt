@@ -15,7 +15,7 @@ use Rattle.std.proofs.lemmas.Fn.{always_returns_same}
 use Rattle.std.proofs.lemmas.Grind.{common_steps}
 use Rattle.model.specs.Choose.{choose, every}
 use Rattle.model.specs.Quantities.{within}
-use Rattle.model.proofs.Choosing.{split, both_left, both_right, parts, tests, every_head}
+use Rattle.model.proofs.Choosing.{split, parts, tests, every_head}
 use Rattle.model.proofs.Ranges.{within_least, within_most, bounds_within}
 use Rattle.script.specs.Text.{prefixed, pieces, fields_of, is_digit, value_from, value_of, is_number, number_in}
 use Rattle.script.specs.Commands.{command_of, read_line}

@@ -1,6 +1,6 @@
 -- What a line of a script may be, and what is written in answer.
 -- Assumes nothing.
-use Rattle.std.specs.Prelude.{ℕ, zero, suc, List, [], ◌∷◌, leb, length, codes, if◌then◌else◌, Option, None, Some, Result, Ok, Err}
+use Rattle.std.specs.Prelude.{ℕ, zero, suc, List, [], ◌∷◌, leb, length, codes, if◌then◌else◌, Option, None, Some, Result}
 use Rattle.std.specs.Str.{bytes_eq}
 use Rattle.model.specs.Choose.{choose}
 use Rattle.model.specs.Numbers.{number_of, init_number_of, Numbered, in_numbers}

@@ -15,10 +15,6 @@ firsts zero fs = []
 firsts (suc k) [] = None ∷ firsts k []
 firsts (suc k) (f ∷ fs) = Some f ∷ firsts k fs
 
--- The first five.
-abbrev pub first_five : List (List ℕ) → List (Option (List ℕ))
-first_five fs = firsts 5 fs
-
 -- The texts that are lent.
 abbrev pub texts : List (Option (Bor (List ℕ))) → List (Option (List ℕ))
 texts fs = map (option_map (λ f. f.now)) fs

@@ -26,6 +26,7 @@ fn part(wanted: usize, lent: usize) -> usize
     if lent < wanted { 0 } else { wanted }
 }
 
+// The table and the arena stay two lent slices beside the record: the heap's rules name that form.
 impl Script {
     /// A script before any line.
     pub(crate) fn start() -> Script

@@ -1,11 +1,11 @@
 //! Bytes as text: the fields of a line, the end of a line, and a number's digits.
 ghost use Rattle.std.specs.Prelude.{◌≡◌, ◌==◌, position};
 ghost use Rattle.script.specs.Text.{number_in, fields_of};
-ghost use Rattle.script.specs.Steps.{first_five, texts};
+ghost use Rattle.script.specs.Steps.{firsts, texts};
 
 /// The first five fields of a line, as far as there are so many. They are separated by one space.
 pub(crate) fn fields_of(line: &[u8]) -> [Option<&[u8]>; 5]
-    ensures { texts result ≡ first_five (fields_of line.now) }
+    ensures { texts result ≡ firsts 5 (fields_of line.now) }
 {
     let mut fields = line.split(|&b| b == b' ');
     [

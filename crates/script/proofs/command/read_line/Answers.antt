@@ -1,6 +1,6 @@
 -- `script::command::read_line` meets its contract.
 -- Assumes nothing.
-use Rattle.std.proofs.Common.{sym, ◌∙◌}
+use Rattle.std.proofs.Common.{◌∙◌}
 use Rattle.script.proofs.Reading.{long_line, short_line}
 use Rattle.script.proofs.command.read_line.Goals as goal
 

@@ -1,7 +1,7 @@
 -- `script::lines_out::write_answer` meets its contract.
 -- Assumes nothing.
 use Rattle.std.proofs.Common.{rules, arith}
-use Rattle.script.proofs.Finishing.{write_bytes, write_none}
+use Rattle.script.proofs.Finishing.{write_bytes}
 use Rattle.script.proofs.lines_out.write_answer.Goals as goal
 
 pub returns : goal.returns

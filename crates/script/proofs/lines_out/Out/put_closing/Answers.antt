@@ -1,6 +1,6 @@
 -- `script::lines_out::Out::put_closing` meets its contract.
 -- Assumes nothing.
-use Rattle.std.proofs.Common.{◌≤◌, ◌*◌, [], ◌∷◌, length, take, arith}
+use Rattle.std.proofs.Common.{◌≤◌, [], ◌∷◌, length, arith}
 use Rattle.script.specs.Text.{ascii, line_of}
 use Rattle.script.proofs.Writing.{four_most, put_length, rows_lent, closing_rows}
 use Rattle.script.proofs.lines_out.Out.put_closing.Goals as goal

@@ -1,7 +1,7 @@
 -- `script::lines_out::Out::put_line` meets its contract.
 -- Assumes nothing.
-use Rattle.std.proofs.Common.{◌≡◌, [], ◌∷◌, ◌++◌, length, take, get_or, refl, sym, ap, ◌∙◌, arith, length-append, append-nil, append_assoc}
-use lib.Seq.{take-length, take_all}
+use Rattle.std.proofs.Common.{◌≡◌, [], ◌∷◌, ◌++◌, length, take, ap, ◌∙◌, arith, length-append, append_assoc}
+use lib.Seq.{take_all}
 use Rattle.script.specs.Text.{spaced}
 use Rattle.script.proofs.Writing.{put_append, put_same, put_length, put_number, spaced_most}
 use Rattle.script.proofs.lines_out.Out.put_line.Goals as goal
