@@ -2,8 +2,8 @@
 -- Assumes nothing.
 use mathlib.Core.Path.{◌≡◌, refl, sym, ap, ◌∙◌, subst}
 use mathlib.Core.Bool.{true, false}
-use mathlib.Core.List.{List, ◌++◌}
-use Rattle.std.specs.Prelude.{None, Some, Ok, Err}
+use mathlib.Core.List.{List, [], ◌∷◌, ◌++◌}
+use Rattle.std.specs.Prelude.{None, Some, Result, Ok, Err}
 use Prim.Native.Nat.{ℕ, ◌+◌, ◌*◌, ◌-◌, ◌≤◌, ◌<◌}
 use native.Mathlib.Omega.{arith}
 use lib.ListN.{length}
@@ -36,9 +36,8 @@ use Rattle.heap.proofs.Changing.{Bounds, bounds, stored_changed}
 use Rattle.model.specs.declared.Segment.{Segment}
 use Rattle.model.specs.declared.Refusal.{Refusal}
 use Rattle.model.specs.declared.Refusal.TheVariants as refusal
-use Rattle.heap.specs.declared.Heap.{Heap}
-use Rattle.heap.specs.declared.Place.{Place}
-use Rattle.heap.specs.declared.Place.TheVariants as place
+use Rattle.heap.specs.declared.record.Heap.{Heap}
+use Rattle.heap.specs.declared.allocating.Place.{Place}
 
 -- 7 and 8, decided by what first fit says, of a valid heap and an allocation whose numbers are proper.
 module _ (r : Heap) (ws : List ℕ) (o n a : ℕ) where
@@ -78,7 +77,7 @@ module _ (r : Heap) (ws : List ℕ) (o n a : ℕ) where
           pub table_full_lem : r.capacity < r.rows - 1 + k → first_reason last ≡ Some refusal.TableFull
           table_full_lem h = rw (fit_at (config_of r) (state_in r ws) o n a s at.lowest, lt-ltb r.capacity (rows_of (config_of r) (insert asked (blocks_in r.rows ws))) (omega (arith, count)))
 
-          pub place_there : r.rows - 1 + k ≤ r.capacity → Decided last r ws n a (place.At i s)
+          pub place_there : r.rows - 1 + k ≤ r.capacity → Decided last r ws n a (Ok (record { row = i; start = s }))
           place_there h = (rw (fit_at (config_of r) (state_in r ws) o n a s at.lowest, le-ltb r.capacity (rows_of (config_of r) (insert asked (blocks_in r.rows ws))) (omega (arith, count))), lowest_at)
 
 module _ (r : Heap) (ws bytes : List ℕ) (o n a : ℕ) where
@@ -90,51 +89,62 @@ module _ (r : Heap) (ws bytes : List ℕ) (o n a : ℕ) where
   unfolding alloc_order
   decided_1 v = rw v
 
+  -- A refusal is decided by its reason.
+  pub decided_not : (p : Result Place Refusal) (why : Refusal) → p ≡ Err why → first_reason whole ≡ Some why → Decided whole r ws n a p
+  decided_not p why q e = subst (Decided whole r ws n a) (sym q) e
+
+  abbrev pub lent : Order Refusal
+  lent = other_guarded_arena (config_of r) bytes ∷ []
+
+  abbrev request : Order Refusal
+  request = request_order o n a
+
+  abbrev pub quotas : Order Refusal
+  quotas = quota_order (config_of r) (state_in r ws) o n
+
   module _ (v : valid r ws ≡ true) where
-    -- 11, of a heap with guards
-    pub decided_11 : (other_guarded_arena (config_of r) bytes).0 ≡ true → first_reason whole ≡ Some refusal.ArenaLength
+    parts : first_reason whole ≡ first_reason (lent ++ (request ++ (quotas ++ last r ws o n a)))
     unfolding alloc_order
-    decided_11 q = rw (v, q)
+    parts = rw v
 
-    abbrev later : Order Refusal
-    later = quota_order (config_of r) (state_in r ws) o n ++ last r ws o n a
+    -- 11, of a heap with guards,
+    pub decided_11 : (why : Refusal) → first_reason lent ≡ Some why → first_reason whole ≡ Some why
+    decided_11 why e = parts ∙ first_stays lent (request ++ (quotas ++ last r ws o n a)) why e
 
-    -- and to a valid heap with its arena the others, in their order
-    others : (other_guarded_arena (config_of r) bytes).0 ≡ false → first_reason whole ≡ first_reason (request_order o n a ++ later)
-    unfolding alloc_order
-    others lent = rw (v, lent)
+    module _ (l : first_reason lent ≡ None) where
+      -- 2, 3 or 4,
+      pub decided_proper : (why : Refusal) → first_reason request ≡ Some why → first_reason whole ≡ Some why
+      decided_proper why e = parts ∙ first_then lent (request ++ (quotas ++ last r ws o n a)) l ∙ first_stays request (quotas ++ last r ws o n a) why e
 
-    -- 2, 3 or 4
-    pub decided_proper : (other_guarded_arena (config_of r) bytes).0 ≡ false → (why : Refusal) → first_reason (request_order o n a) ≡ Some why → first_reason whole ≡ Some why
-    decided_proper lent why e = others lent ∙ first_stays (request_order o n a) later why e
+      module _ (p : first_reason request ≡ None) where
+        -- 5 or 6,
+        pub decided_quotas : (why : Refusal) → first_reason quotas ≡ Some why → first_reason whole ≡ Some why
+        decided_quotas why e = parts ∙ first_then lent (request ++ (quotas ++ last r ws o n a)) l ∙ first_then request (quotas ++ last r ws o n a) p ∙ first_stays quotas (last r ws o n a) why e
 
-    module _ (p : first_reason (request_order o n a) ≡ None) where
-      module _ (lent : (other_guarded_arena (config_of r) bytes).0 ≡ false) where
-        -- 5 or 6
-        pub decided_quotas : (why : Refusal) → first_reason (quota_order (config_of r) (state_in r ws) o n) ≡ Some why → first_reason whole ≡ Some why
-        decided_quotas why e =
-            others lent ∙ first_then (request_order o n a) later p ∙ first_stays (quota_order (config_of r) (state_in r ws) o n) (last r ws o n a) why e
-
-        -- 7, 8 or a place
-        module _ (q : first_reason (quota_order (config_of r) (state_in r ws) o n) ≡ None) where
+        -- 7, 8 or a place.
+        module _ (q : first_reason quotas ≡ None) where
           rest : first_reason whole ≡ first_reason (last r ws o n a)
-          rest =
-              others lent ∙ first_then (request_order o n a) later p
-              ∙ first_then (quota_order (config_of r) (state_in r ws) o n) (last r ws o n a) q
+          rest = parts ∙ first_then lent (request ++ (quotas ++ last r ws o n a)) l ∙ first_then request (quotas ++ last r ws o n a) p ∙ first_then quotas (last r ws o n a) q
 
-          pub decided_place : (d : Place) → Decided (last r ws o n a) r ws n a d → Decided whole r ws n a d
-          decided_place (place.Refused why) e = rest ∙ e
-          decided_place (place.At row start) e = (rest ∙ e.0, e.1)
+          pub decided_place : (d : Result Place Refusal) → Decided (last r ws o n a) r ws n a d → Decided whole r ws n a d
+          decided_place (Err why) e = rest ∙ e
+          decided_place (Ok at) e = (rest ∙ e.0, e.1)
 
   -- Refused, it leaves all as it was.
-  pub alloc_not : (p : Place) → Decided whole r ws n a p → (why : Refusal) → p ≡ place.Refused why → AllocDone r ws bytes o n a (record { answer = Err why; heap = r }) ws bytes
+  pub alloc_not : (p : Result Place Refusal) → Decided whole r ws n a p → (why : Refusal) → p ≡ Err why → AllocDone r ws bytes o n a (record { answer = Err why; heap = r }) ws bytes
   alloc_not p decided why q =
       let e : first_reason whole ≡ Some why = subst (Decided whole r ws n a) q decided in
       record { answer = rw e; numbered = rw e; heap = rw e; table = rw e; arena = rw e }
 
-  -- Placed in row i at s.
-  module _ (p : Place) (decided : Decided whole r ws n a p) (i s : ℕ) (q : p ≡ place.At i s) where
-    d : Decided whole r ws n a (place.At i s)
+  -- Placed.
+  module _ (p : Result Place Refusal) (decided : Decided whole r ws n a p) (place : Place) (q : p ≡ Ok place) where
+    abbrev i : ℕ
+    i = place.row
+
+    abbrev s : ℕ
+    s = place.start
+
+    d : Decided whole r ws n a (Ok place)
     d = subst (Decided whole r ws n a) q decided
 
     checked : valid r ws ≡ true

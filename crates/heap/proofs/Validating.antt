@@ -20,9 +20,9 @@ use Rattle.segments.specs.declared.Census.{Census}
 use Rattle.segments.proofs.TilesMap.{map_charged, MapParts, map_parts, parts_map}
 use Rattle.heap.specs.Stored.{config_of}
 use Rattle.heap.specs.Valid.{keeps_quotas, valid}
-use Rattle.heap.specs.Steps.{framed, keeps_all, agrees_with, Examined}
+use Rattle.heap.specs.Steps.{framed, keeps_all, agrees_with, Examination}
 use Rattle.heap.proofs.Conditions.{Conditions, valid_conditions, conditions_valid, not_valid}
-use Rattle.heap.specs.declared.Heap.{Heap}
+use Rattle.heap.specs.declared.record.Heap.{Heap}
 
 pub keeps_all_lem : (figures quotas : List ℕ) → ((i : ℕ) → i < 8 → get_or figures i 0 ≤ get_or quotas i 0) → keeps_all figures quotas ≡ true
 keeps_all_lem figures quotas h = all_owners (λ (o : ℕ). leb (get_or figures (o - 1) 0) (quota quotas o)) (λ o a b. le-leb (get_or figures (o - 1) 0) (quota quotas o) (rw (quota_at quotas o a) (h (o - 1) (omega arith))))
@@ -150,9 +150,10 @@ module _ (r : Heap) (ws : List ℕ) (k : Census) (counted : Counted (config_of r
         (both_true _ _ (bounds_within r.used r.granules r.peak a.peak_least a.peak_most)
         (both_true _ _ (blocks_kept a) (granules_kept a)))))
 
--- What a check tells of a record and a table that are not valid, and of a valid heap.
-pub examined_not : (r : Heap) (ws : List ℕ) (k : Census) → k.ok ≡ false → valid r ws ≡ false → Examined r ws k
-examined_not r ws k q v = record { ok = q ∙ sym v; counted = λ t. absurd (clash _ t q) }
-
-pub examined : (r : Heap) (ws : List ℕ) (k : Census) → Counted (config_of r) r.rows ws k → k.ok ≡ true → framed r ws ≡ true → agrees_with r ws k ≡ true → Examined r ws k
-examined r ws k counted good f q = record { ok = good ∙ sym (sym (agrees_valid r ws k counted good f) ∙ q); counted = λ t. counted }
+-- What a check tells of a valid heap.
+pub examined : (r : Heap) (ws : List ℕ) (k : Census) → Counted (config_of r) r.rows ws k → k.ok ≡ true → framed r ws ≡ true → agrees_with r ws k ≡ true → Examination r ws k
+examined r ws k counted good f q =
+    record {
+      valid = sym (agrees_valid r ws k counted good f) ∙ q;
+      figures = record { bounded = counted.bounded; used = counted.used good; longest = counted.longest good; blocks = counted.blocks good; held = counted.held good };
+    }

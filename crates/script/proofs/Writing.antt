@@ -23,7 +23,6 @@ use Rattle.segments.proofs.Reading.{row_below}
 use Rattle.heap.specs.Stored.{handed}
 use Rattle.heap.specs.Valid.{valid}
 use Rattle.heap.specs.Calls.{totals_of}
-use Rattle.heap.specs.Promises.{TotalsDone}
 use Rattle.heap.proofs.Changing.{Bounds, bounds}
 use Rattle.model.specs.declared.Segment.{Segment}
 use Rattle.model.specs.declared.Refusal.{Refusal}
@@ -35,7 +34,7 @@ use Rattle.script.specs.declared.answer.Why.TheVariants as why
 use Rattle.std.specs.Fmt as std
 use Rattle.std.proofs.lemmas.Fmt.{decimal_by_steps}
 use Rattle.model.specs.declared.Totals.{Totals}
-use Rattle.heap.specs.declared.Heap.{Heap}
+use Rattle.heap.specs.declared.record.Heap.{Heap}
 use Rattle.script.proofs.Lists.{sets_append, at_most}
 use Rattle.script.specs.declared.carrying_out.Script.{Script}
 
@@ -217,21 +216,21 @@ module _ (s : Script) (table : List ℕ) (n : ℕ) (lent : n ≡ min (4 * s.heap
   lent_words = (at_most (4 * s.heap.capacity) n table lent).0
 
   -- What is written at the end goes by the totals.
-  closing_told : (t : Result Totals Refusal) → TotalsDone s.heap (take n table) t → (bs : List ℕ) → closing (machine s table bs) ≡ closing_with (machine s table bs) t
+  closing_told : (t : Result Totals Refusal) → t ≡ totals_of (handed s.heap (take n table)) → (bs : List ℕ) → closing (machine s table bs) ≡ closing_with (machine s table bs) t
   closing_told t done bs =
-      ap (closing_with (machine s table bs)) (sym (ap (λ ws. totals_of (handed s.heap ws)) lent_words) ∙ sym done.answer)
+      ap (closing_with (machine s table bs)) (sym (ap (λ ws. totals_of (handed s.heap ws)) lent_words) ∙ sym done)
 
   -- Nothing is written where the totals are refused.
-  pub closing_none : (t : Result Totals Refusal) → TotalsDone s.heap (take n table) t → (why : Refusal) → t ≡ Err why
+  pub closing_none : (t : Result Totals Refusal) → t ≡ totals_of (handed s.heap (take n table)) → (why : Refusal) → t ≡ Err why
       → {buffer : List ℕ} {at : ℕ} (bs : List ℕ) → Put (closing (machine s table bs)) buffer at at buffer
   closing_none t done why e bs =
       put_same (sym (closing_told t done bs ∙ ap (closing_with (machine s table bs)) e)) (put_none refl)
 
-  module _ (t : Result Totals Refusal) (done : TotalsDone s.heap (take n table) t) (sums : Totals) (e : t ≡ Ok sums) where
+  module _ (t : Result Totals Refusal) (done : t ≡ totals_of (handed s.heap (take n table))) (sums : Totals) (e : t ≡ Ok sums) where
     -- The heap is valid otherwise, so that its rows are few, and all lent.
     pub rows_lent : (s.heap.rows ≤ 512) × (4 * s.heap.rows ≤ length (take n table))
     rows_lent =
-        let b : Bounds s.heap (take n table) (totals_valid s.heap (take n table) sums (sym done.answer ∙ e)) = bounds _ _ _ in
+        let b : Bounds s.heap (take n table) (totals_valid s.heap (take n table) sums (sym done ∙ e)) = bounds _ _ _ in
         (omega arith, omega arith)
 
     -- The rows are written then, and the totals.

@@ -7,7 +7,7 @@ ghost use Rattle.script.specs.declared.command.Command.TheVariants.{Limit, Make,
 
 use crate::answer::Why;
 use crate::command::Command;
-use heap::{Heap, is_owner, zero_heap};
+use heap::{Heap, is_owner};
 use model::{InitRefusal, Plan, Refusal};
 
 /// What a script keeps beside the lent table and arena: the quotas for the next make, and the heap's record, all zero until a make is granted.
@@ -35,7 +35,7 @@ impl Script {
         Script {
             granule_quotas: [0; 8],
             block_quotas: [0; 8],
-            heap: zero_heap(),
+            heap: Heap::zero(),
         }
     }
 
@@ -78,7 +78,7 @@ impl Script {
     {
         let n = part(bytes as usize, arena.len().min(65536));
         let k = part(4 * rows as usize, table.len());
-        let made = heap::init(&mut arena[..n], &mut table[..k], self.plan());
+        let made = Heap::init(&mut arena[..n], &mut table[..k], self.plan());
         made.answer?;
         self.heap = made.heap;
         Ok(bytes)
@@ -98,14 +98,8 @@ impl Script {
     {
         let n = (4 * self.heap.capacity as usize).min(table.len());
         let k = (16 * self.heap.granules as usize).min(arena.len());
-        let out = heap::alloc_aligned(
-            self.heap,
-            &mut table[..n],
-            &mut arena[..k],
-            owner,
-            size,
-            align,
-        );
+        let heap = self.heap;
+        let out = heap.alloc_aligned(&mut table[..n], &mut arena[..k], owner, size, align);
         self.heap = out.heap;
         out.answer
     }
@@ -124,7 +118,8 @@ impl Script {
     {
         let n = (4 * self.heap.capacity as usize).min(table.len());
         let k = (16 * self.heap.granules as usize).min(arena.len());
-        let out = heap::free(self.heap, &mut table[..n], &mut arena[..k], owner, offset);
+        let heap = self.heap;
+        let out = heap.free(&mut table[..n], &mut arena[..k], owner, offset);
         self.heap = out.heap;
         out.answer
     }

@@ -95,7 +95,7 @@ impl<'a> Out<'a> {
         let heap = script.heap;
         let n = (4 * heap.capacity as usize).min(table.len());
         let table = &table[..n];
-        let Ok(totals) = heap::totals(heap, table) else {
+        let Ok(totals) = heap.totals(table) else {
             return;
         };
         self.put_rows(table, heap.rows as usize);

@@ -30,3 +30,11 @@ pub record Counted (c : Config) (n : ℕ) (ws : List ℕ) (k : Census) : Type 0 
   pub longest : k.ok ≡ true → k.longest ≡ longest_free c (blocks_in n ws)
   pub blocks : k.ok ≡ true → (o : ℕ) → 1 ≤ o → o ≤ 8 → slice_index k.blocks (o - 1) ≡ length (owned_by o (blocks_in n ws))
   pub held : k.ok ≡ true → (o : ℕ) → 1 ≤ o → o ≤ 8 → slice_index k.held (o - 1) ≡ granules_of (owned_by o (blocks_in n ws))
+
+-- What is counted of n rows that are a map: the figures of the live blocks and of the longest free run, for each of owners 1 to 8 the number of its blocks, and their granules.
+pub record Figures (c : Config) (n : ℕ) (ws : List ℕ) (k : Census) : Type 0 where
+  pub bounded : Bounded c.granules k
+  pub used : k.used ≡ granules_of (blocks_in n ws)
+  pub longest : k.longest ≡ longest_free c (blocks_in n ws)
+  pub blocks : (o : ℕ) → 1 ≤ o → o ≤ 8 → slice_index k.blocks (o - 1) ≡ length (owned_by o (blocks_in n ws))
+  pub held : (o : ℕ) → 1 ≤ o → o ≤ 8 → slice_index k.held (o - 1) ≡ granules_of (owned_by o (blocks_in n ws))

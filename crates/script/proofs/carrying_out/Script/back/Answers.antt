@@ -4,7 +4,11 @@ use Rattle.script.proofs.Carrying.{back_done}
 use Rattle.script.proofs.carrying_out.Script.back.Goals as goal
 
 pub returns-clause-answer : goal.returns-clause-answer
-returns-clause-answer c = (back_done c.args.self.now _ _ _ _ c.min-n.ensures c.min-k.ensures _ _ _ _ _ c.free-out.ensures).0
+returns-clause-answer c =
+    let d = c.free-out.ensures in
+    (back_done c.args.self.now _ _ _ _ c.min-n.ensures c.min-k.ensures _ _ _ _ _ (record { answer = d.answer; numbered = d.numbered; heap = d.heap; table = d.table; arena = d.arena })).0
 
 pub returns-clause-leaves : goal.returns-clause-leaves
-returns-clause-leaves c = (back_done c.args.self.now _ _ _ _ c.min-n.ensures c.min-k.ensures _ _ _ _ _ c.free-out.ensures).1
+returns-clause-leaves c =
+    let d = c.free-out.ensures in
+    (back_done c.args.self.now _ _ _ _ c.min-n.ensures c.min-k.ensures _ _ _ _ _ (record { answer = d.answer; numbered = d.numbered; heap = d.heap; table = d.table; arena = d.arena })).1
