@@ -8,7 +8,7 @@ use Rattle.script.specs.Promises.{fed_pieces, fed_text}
 use Rattle.script.specs.Performed.{Feeds}
 use Rattle.script.proofs.Lists.{front_text}
 use Rattle.script.proofs.Parts.{in_parts, in_parts_lem}
-use Rattle.script.specs.declared.Session.{Session}
+use Rattle.script.specs.declared.session.Session.{Session}
 use Rattle.heapscript.specs.Steps.{Begins}
 
 -- A part that is fed: its answers, the machine afterwards, and what is held.
@@ -21,24 +21,24 @@ module _ (s : Session) (words bytes part : List ℕ) (f : Feeds s words bytes pa
       front_text (fed_text s words bytes f.input f.room) f.room f.room_after f.out.written f.done.written f.done.buffer
       ∙ ap (λ (ls : List (List ℕ)). answers_to (machine s.script words bytes) (ended ls)) same_pieces
 
-  pub fed_leaves : machine f.out.session.script f.words_after f.bytes_after ≡ after_lines (machine s.script words bytes) (ended (pieces_with (held s) part))
+  pub fed_leaves : machine f.s_after.script f.words_after f.bytes_after ≡ after_lines (machine s.script words bytes) (ended (pieces_with (held s) part))
   fed_leaves =
       f.done.leaves
       ∙ ap (λ (ls : List (List ℕ)). after_lines (machine s.script words bytes) (ended ls)) same_pieces
 
-  pub fed_holds : held f.out.session ≡ take most_held (unended (pieces_with (held s) part))
+  pub fed_holds : held f.s_after ≡ take most_held (unended (pieces_with (held s) part))
   fed_holds =
-      front_text (take most_held (unended (fed_pieces s words bytes f.input f.room))) s.line f.out.session.line f.out.session.count f.done.count f.done.line
+      front_text (take most_held (unended (fed_pieces s words bytes f.input f.room))) s.held.line f.s_after.held.line f.s_after.held.count f.done.count f.done.line
       ∙ ap (λ (ls : List (List ℕ)). take most_held (unended ls)) same_pieces
 
   -- What is written for the part and others is what was put for it, and then what is written for the others.
   pub fed_goes : (parts : List (List ℕ))
-      → in_parts (machine s.script words bytes) (held s) (part ∷ parts) ≡ take f.out.written f.room_after ++ in_parts (machine f.out.session.script f.words_after f.bytes_after) (held f.out.session) parts
+      → in_parts (machine s.script words bytes) (held s) (part ∷ parts) ≡ take f.out.written f.room_after ++ in_parts (machine f.s_after.script f.words_after f.bytes_after) (held f.s_after) parts
   fed_goes parts = rw (fed_answers, fed_leaves, fed_holds)
 
 -- With whatever comes after the input so far, the output is the text so far, and then what is written for the rest.
 pub record Going (s : Session) (words bytes input text : List ℕ) (s' : Session) (words' bytes' : List ℕ) : Type 0 where
-  pub goes : s.script ≡ started → s.count ≡ 0 → (parts : List (List ℕ))
+  pub goes : s.script ≡ started → s.held.count ≡ 0 → (parts : List (List ℕ))
       → output words bytes (input ++ joined parts) ≡ text ++ in_parts (machine s'.script words' bytes') (held s') parts
 
 -- Before any part.
@@ -48,7 +48,7 @@ Going-none s words bytes =
 
 module _ (s : Session) (words bytes input text : List ℕ) (s' : Session) (words' bytes' : List ℕ) (before : Going s words bytes input text s' words' bytes') (part : List ℕ) where
   -- One more part.
-  pub Going-more : (f : Feeds s' words' bytes' part) → Going s words bytes (input ++ part) (text ++ take f.out.written f.room_after) f.out.session f.words_after f.bytes_after
+  pub Going-more : (f : Feeds s' words' bytes' part) → Going s words bytes (input ++ part) (text ++ take f.out.written f.room_after) f.s_after f.words_after f.bytes_after
   Going-more f =
       record {
         goes = λ e z parts.
@@ -59,7 +59,7 @@ module _ (s : Session) (words bytes input text : List ℕ) (s' : Session) (words
       }
 
   -- A beginning of the part's answers.
-  pub Going-stops : (t : List ℕ) → Begins t (answers_to (machine s'.script words' bytes') (ended (pieces_with (held s') part))) → s.script ≡ started → s.count ≡ 0
+  pub Going-stops : (t : List ℕ) → Begins t (answers_to (machine s'.script words' bytes') (ended (pieces_with (held s') part))) → s.script ≡ started → s.held.count ≡ 0
       → (rest : List ℕ) → Begins (text ++ t) (output words bytes ((input ++ part) ++ rest))
   Going-stops t b e z rest =
       let m : Machine = after_lines (machine s'.script words' bytes') (ended (pieces_with (held s') part)) in

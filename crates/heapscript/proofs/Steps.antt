@@ -2,16 +2,16 @@
 -- Assumes nothing.
 use Rattle.std.proofs.Common.{◌≡◌, ℕ, ◌+◌, ◌-◌, ◌^◌, ◌<◌, ◌≤◌, List, [], ◌∷◌, ◌++◌, length, take, Option, refl, sym, ap, ◌∙◌, append_assoc, append-nil, length-append, subst, arith, drop, Some, None, IfSome, Result, Ok, Err, OnErr}
 use Rattle.std.proofs.lemmas.List.{take-append-drop}
-use Rattle.std.proofs.Math.Seq.{take_all}
-use Rattle.std.proofs.KnownBytes.{Consumes-nil, Appends-nil, Consumes-kept, Consumes-trans, Appends-trans}
+use Rattle.std.proofs.Math.Seq.{take_all, take-append_seam}
+use Rattle.std.proofs.KnownBytes.{Consumes-nil, Appends-nil, Consumes-kept, Consumes-trans, Appends-kept, Appends-trans}
 use Rattle.std.specs.Io.KnownBytes.{Keeps, Consumes, Appends, IsAtEnd}
 use Rattle.script.specs.Machine.{started}
 use Rattle.script.specs.Session.{output, joined}
 use Rattle.script.specs.Promises.{FeedDone}
 use Rattle.script.specs.Performed.{Feeds, Finishes}
 use Rattle.script.proofs.Performed.{no_line_lost}
-use Rattle.script.specs.declared.Session.{Session}
-use Rattle.script.specs.declared.Fed.{Fed}
+use Rattle.script.specs.declared.session.Session.{Session}
+use Rattle.script.specs.declared.session.Fed.{Fed}
 use Rattle.heapscript.specs.Steps.{Begins, AnswersPart, StopsPart, FeedsOn, AnswersInput, StopsInput, WritesEnd, StopsEnd}
 use Rattle.heapscript.specs.Whole.{AnswersScript, StopsScript}
 use Rattle.heapscript.proofs.Going.{fed_answers, Going, Going-none, Going-more, Going-stops}
@@ -28,7 +28,7 @@ FeedsOn-none s words bytes = record { goes_on = λ parts rest p. (parts, refl, p
 -- One more part is fed.
 pub FeedsOn-more : (s : Session) (words bytes input text : List ℕ) (s₁ : Session) (words₁ bytes₁ part : List ℕ) → FeedsOn s words bytes input text s₁ words₁ bytes₁
     → (f : Feeds s₁ words₁ bytes₁ part)
-    → FeedsOn s words bytes (input ++ part) (text ++ take f.out.written f.room_after) f.out.session f.words_after f.bytes_after
+    → FeedsOn s words bytes (input ++ part) (text ++ take f.out.written f.room_after) f.s_after f.words_after f.bytes_after
 FeedsOn-more s words bytes input text s₁ words₁ bytes₁ part on f =
     record {
       goes_on = λ parts rest p.
@@ -41,13 +41,14 @@ pub taken_whole : (part : List ℕ) (n : ℕ) → n ≡ length part → part ≡
 taken_whole part n e = rw (e, take_all (length part) part (omega arith)) refl
 
 -- A part of which all is taken is fed.
-abbrev pub Feeds-whole : (s : Session) (w b part room : List ℕ) (out : Fed) (w' b' room' : List ℕ) → (out.taken ≡ length part) × FeedDone s w b part room out w' b' room' → Feeds s w b part
-Feeds-whole s w b part room out w' b' room' fed =
+abbrev pub Feeds-whole : (s : Session) (w b part room : List ℕ) (out : Fed) (s' : Session) (w' b' room' : List ℕ) → (out.taken ≡ length part) × FeedDone s w b part room out s' w' b' room' → Feeds s w b part
+Feeds-whole s w b part room out s' w' b' room' fed =
     record {
       input = part;
       room = room;
       out = out;
       takes = taken_whole part out.taken fed.0;
+      s_after = s';
       words_after = w';
       bytes_after = b';
       room_after = room';
@@ -77,6 +78,39 @@ StopsPart-write u u' h h' s w b part f n read written =
       written = written;
       begins = record { more = drop n text; is = sym (fed_answers s w b part f) ∙ sym (take-append-drop n text) };
     }
+
+-- What stands before the rest of some bytes is written.
+pub record Written (held holds : Option (List ℕ)) (bytes rest : List ℕ) : Type 0 where
+  pub front : List ℕ
+  pub cut : bytes ≡ front ++ rest
+  pub written : Appends held holds front
+
+-- At first nothing is.
+pub Written-none : (held : Option (List ℕ)) (bytes : List ℕ) → Written held held bytes bytes
+Written-none held bytes = record { front = []; cut = refl; written = Appends-nil held }
+
+-- The first n bytes of the rest are written.
+pub Written-more : (h₀ h h' : Option (List ℕ)) (bytes rest : List ℕ) (n : ℕ) → Written h₀ h bytes rest → Appends h h' (take n rest) → (rest' : List ℕ) → rest' ≡ drop n rest → Written h₀ h' bytes rest'
+Written-more h₀ h h' bytes rest n before now rest' same =
+    record {
+      front = before.front ++ take n rest;
+      cut = before.cut ∙ rw (same, append_assoc) (ap (λ l. before.front ++ l) (sym (take-append-drop n rest)));
+      written = Appends-trans h₀ h h' before.front (take n rest) before.written now;
+    }
+
+-- A write that fails writes nothing.
+pub Written-kept : (h₀ h h' : Option (List ℕ)) (bytes rest : List ℕ) → Written h₀ h bytes rest → Keeps h h' → Written h₀ h' bytes rest
+Written-kept h₀ h h' bytes rest before kept =
+    record { front = before.front; cut = before.cut; written = Appends-kept h₀ h h' before.front before.written kept }
+
+-- What is written are some of the first bytes,
+pub Written-first : (held holds : Option (List ℕ)) (bytes rest : List ℕ) → Written held holds bytes rest → (n : ℕ) × Appends held holds (take n bytes)
+Written-first held holds bytes rest w =
+    (length w.front, subst (λ l. Appends held holds l) (rw w.cut (sym (take-append_seam w.front rest))) w.written)
+
+-- and all of them where no rest is left.
+pub Written-all : (held holds : Option (List ℕ)) (bytes : List ℕ) → Written held holds bytes [] → Appends held holds bytes
+Written-all held holds bytes w = subst (λ l. Appends held holds l) (sym (w.cut ∙ append-nil w.front)) w.written
 
 -- What a loop over the parts keeps after k of them, none of which was empty.
 pub record SoFar (unread still_unread held holds : Option (List ℕ)) (s : Session) (words bytes : List ℕ) (s' : Session) (words' bytes' : List ℕ) (k : ℕ) : Type 0 where
@@ -126,12 +160,12 @@ module _ (u₀ u u' h₀ h h' : Option (List ℕ)) (s₀ : Session) (w₀ b₀ :
 
   -- The empty part, at the end of the input.
   pub AnswersInput-end : n ≡ 0 → AnswersInput u₀ u' h₀ h' s₀ w₀ b₀ s' w' b'
-  AnswersInput-end None =
+  AnswersInput-end none =
       record {
         input = before.input ++ now.part;
         text = before.text ++ take now.fed.out.written now.fed.room_after;
         read = Consumes-trans u₀ u u' before.input now.part before.read now.read;
-        whole = λ _. now.end None;
+        whole = λ _. now.end none;
         fed = more;
         written = Appends-trans h₀ h h' before.text (take now.fed.out.written now.fed.room_after) before.written now.written;
       }
@@ -149,24 +183,24 @@ StopsInput-end u₀ u u' h₀ h h' s₀ w₀ b₀ s w b k before now =
     }
 
 -- The text for all parts and the end is the output.
-input_answered : (s₀ : Session) (w₀ b₀ : List ℕ) (s : Session) (w b input text : List ℕ) → s₀.script ≡ started → s₀.count ≡ 0 → FeedsOn s₀ w₀ b₀ input text s w b
+input_answered : (s₀ : Session) (w₀ b₀ : List ℕ) (s : Session) (w b input text : List ℕ) → s₀.script ≡ started → s₀.held.count ≡ 0 → FeedsOn s₀ w₀ b₀ input text s w b
     → (f : Finishes s w b) → text ++ take f.out f.room_after ≡ output w₀ b₀ input
-input_answered s₀ w₀ b₀ s w b input text new None fed f =
+input_answered s₀ w₀ b₀ s w b input text new none fed f =
     let end : List ℕ = take f.out f.room_after in
     let all = fed.goes_on [] end (f, refl) in
     let whole : joined all.0 ≡ input = all.1 ∙ append-nil input in
-    no_line_lost s₀ new None w₀ b₀ all.0 (text ++ end) all.2 ∙ ap (λ x. output w₀ b₀ x) whole
+    no_line_lost s₀ new none w₀ b₀ all.0 (text ++ end) all.2 ∙ ap (λ x. output w₀ b₀ x) whole
 
 -- The input from a session's start, and the end.
-pub AnswersScript-end : (u u' h₀ h h' : Option (List ℕ)) (s₀ : Session) (w₀ b₀ : List ℕ) (s : Session) (w b : List ℕ) → s₀.script ≡ started → s₀.count ≡ 0
+pub AnswersScript-end : (u u' h₀ h h' : Option (List ℕ)) (s₀ : Session) (w₀ b₀ : List ℕ) (s : Session) (w b : List ℕ) → s₀.script ≡ started → s₀.held.count ≡ 0
     → AnswersInput u u' h₀ h s₀ w₀ b₀ s w b → WritesEnd h h' s w b → AnswersScript u u' h₀ h' w₀ b₀
-AnswersScript-end u u' h₀ h h' s₀ w₀ b₀ s w b new None body end =
+AnswersScript-end u u' h₀ h h' s₀ w₀ b₀ s w b new none body end =
     let text : List ℕ = take end.finished.out end.finished.room_after in
     record {
       input = body.input;
       read = body.read;
       written =
-          subst (λ x. Appends h₀ h' x) (input_answered s₀ w₀ b₀ s w b body.input body.text new None body.fed end.finished)
+          subst (λ x. Appends h₀ h' x) (input_answered s₀ w₀ b₀ s w b body.input body.text new none body.fed end.finished)
           (Appends-trans h₀ h h' body.text text body.written end.written);
       whole = body.whole;
     }
@@ -187,26 +221,26 @@ at_end (Some xs) None w b input text p e f = absurd p
 at_end (Some xs) (Some ys) w b input text p e f =
     λ short.
     let n : length xs ≡ length (input ++ ys) = ap length p in
-    let None : ys ≡ [] = e (omega (arith, n, length-append input ys, short)) in
-    let same : input ≡ xs = sym (p ∙ ap (λ l. input ++ l) None ∙ append-nil input) in
+    let none : ys ≡ [] = e (omega (arith, n, length-append input ys, short)) in
+    let same : input ≡ xs = sym (p ∙ ap (λ l. input ++ l) none ∙ append-nil input) in
     subst (λ x. Begins text (output w b x)) same f
 
 -- Reading or writing failed before the end.
-pub StopsScript-input : (u u' h h' : Option (List ℕ)) (s : Session) (w b : List ℕ) → s.script ≡ started → s.count ≡ 0 → StopsInput u u' h h' s w b → StopsScript u h h' w b
-StopsScript-input u u' h h' s w b new None stops =
+pub StopsScript-input : (u u' h h' : Option (List ℕ)) (s : Session) (w b : List ℕ) → s.script ≡ started → s.held.count ≡ 0 → StopsInput u u' h h' s w b → StopsScript u h h' w b
+StopsScript-input u u' h h' s w b new none stops =
     record {
       text = stops.text;
       written = stops.written;
-      begins = at_input u u' w b stops.input stops.text stops.read (stops.begins new None);
+      begins = at_input u u' w b stops.input stops.text stops.read (stops.begins new none);
     }
 
 -- Writing what comes at the end failed.
-pub StopsScript-end : (u u' h₀ h h' : Option (List ℕ)) (s₀ : Session) (w₀ b₀ : List ℕ) (s : Session) (w b : List ℕ) → s₀.script ≡ started → s₀.count ≡ 0
+pub StopsScript-end : (u u' h₀ h h' : Option (List ℕ)) (s₀ : Session) (w₀ b₀ : List ℕ) (s : Session) (w b : List ℕ) → s₀.script ≡ started → s₀.held.count ≡ 0
     → AnswersInput u u' h₀ h s₀ w₀ b₀ s w b → StopsEnd h h' s w b → StopsScript u h₀ h' w₀ b₀
-StopsScript-end u u' h₀ h h' s₀ w₀ b₀ s w b new None body end =
+StopsScript-end u u' h₀ h h' s₀ w₀ b₀ s w b new none body end =
     let text : List ℕ = take end.finished.out end.finished.room_after in
     let cut : List ℕ = take end.count text in
-    let same : output w₀ b₀ body.input ≡ body.text ++ text = sym (input_answered s₀ w₀ b₀ s w b body.input body.text new None body.fed end.finished) in
+    let same : output w₀ b₀ body.input ≡ body.text ++ text = sym (input_answered s₀ w₀ b₀ s w b body.input body.text new none body.fed end.finished) in
     let parts : body.text ++ text ≡ (body.text ++ cut) ++ drop end.count text =
     ap (λ x. body.text ++ x) (sym (take-append-drop end.count text)) ∙ sym (append_assoc body.text cut (drop end.count text)) in
     record {

@@ -6,7 +6,7 @@ use Rattle.script.specs.Text.{ended}
 use Rattle.script.specs.Machine.{machine, started}
 use Rattle.script.specs.Session.{joined, output, answers_to, held, pieces_with}
 use Rattle.script.specs.Performed.{Feeds, Finishes, Performed}
-use Rattle.script.specs.declared.Session.{Session}
+use Rattle.script.specs.declared.session.Session.{Session}
 
 -- A text begins with another.
 pub record Begins (text whole : List ℕ) : Type 0 where
@@ -20,7 +20,7 @@ pub record AnswersPart (unread still_unread held holds : Option (List ℕ)) (s :
   pub read : Consumes unread still_unread part
   pub end : n ≡ 0 → IsAtEnd still_unread
   pub fed : Feeds s words bytes part
-  pub session : s_after ≡ fed.out.session
+  pub session : s_after ≡ fed.s_after
   pub table : words_after ≡ fed.words_after
   pub arena : bytes_after ≡ fed.bytes_after
   pub written : Appends held holds (take fed.out.written fed.room_after)
@@ -53,7 +53,7 @@ pub record StopsInput (unread still_unread was_held holds : Option (List ℕ)) (
   pub text : List ℕ
   pub read : Consumes unread still_unread input
   pub written : Appends was_held holds text
-  pub begins : s.script ≡ started → s.count ≡ 0 → (rest : List ℕ) → Begins text (output words bytes (input ++ rest))
+  pub begins : s.script ≡ started → s.held.count ≡ 0 → (rest : List ℕ) → Begins text (output words bytes (input ++ rest))
 
 -- What comes at the end was put, and written.
 pub record WritesEnd (held holds : Option (List ℕ)) (s : Session) (words bytes : List ℕ) : Type 0 where

@@ -1,4 +1,4 @@
-// Runs a script of requests: reads standard input to its end, and writes the answer to each line, and the heap at the end, to standard output.
+//! Runs a script of requests: reads standard input to its end, and writes the answer to each line, and the heap at the end, to standard output.
 #![tactic(auto)]
 
 ghost use Rattle.std.specs.Prelude.{◌≡◌, ℕ, ◌*◌, ◌≤◌, length, take, IfOk, OnOk, OnErr};
@@ -7,22 +7,22 @@ ghost use Rattle.script.specs.Promises.{FeedDone};
 ghost use Rattle.heapscript.specs.Steps.{AnswersPart, StopsPart, AnswersInput, StopsInput, WritesEnd, StopsEnd};
 ghost use Rattle.heapscript.specs.Whole.{AnswersScript, StopsScript};
 
-use script::{Fed, Session, Written};
+use script::{Fed, Session};
 use std::io;
 use std::io::{Read, Write};
 
 /// Answers the lines that end in a part of the input, all of which is taken.
 fn answer_whole(
-    session: Session,
+    session: &mut Session,
     table: &mut [u32],
     arena: &mut [u8],
     input: &[u8],
     out: &mut [u8],
 ) -> Fed
     requires { 14 * length input.now ≤ length out.old }
-    ensures { (result.taken ≡ length input.now) × FeedDone session table.old arena.old input.now out.old result table.new arena.new out.new }
+    ensures { (result.taken ≡ length input.now) × FeedDone session.old table.old arena.old input.now out.old result session.new table.new arena.new out.new }
 {
-    script::feed(session, table, arena, input, out)
+    session.feed(table, arena, input, out)
 }
 
 /// Writes all of the bytes. Where that fails, some of the first ones are written, and no more.
@@ -30,13 +30,13 @@ fn write_out<W: Write>(writer: &mut W, bytes: &[u8]) -> io::Result<()>
     ensures ok { OnOk result (Appends (W.contents writer.old) (W.contents writer.new) bytes.now) }
     ensures err { OnErr result ((n : ℕ) × Appends (W.contents writer.old) (W.contents writer.new) (take n bytes.now)) }
 {
-    let mut done = 0;
-    while done < bytes.len() {
-        let n = writer.write(&bytes[done..])?;
+    let mut rest = bytes;
+    while !rest.is_empty() {
+        let n = writer.write(rest)?;
         if n == 0 {
             return Err(io::Error::from(io::ErrorKind::WriteZero));
         }
-        done += n;
+        rest = &rest[n..];
     }
     Ok(())
 }
@@ -55,8 +55,7 @@ fn answer_part<R: Read, W: Write>(
     let mut input = [0; 4096];
     let n = reader.read(&mut input)?;
     let mut out = [0; 57344];
-    let fed = answer_whole(*session, table, arena, &input[..n], &mut out);
-    *session = fed.session;
+    let fed = answer_whole(session, table, arena, &input[..n], &mut out);
     write_out(writer, &out[..fed.written])?;
     Ok(n)
 }
@@ -91,9 +90,9 @@ fn write_end<W: Write>(
     ensures err { OnErr result (StopsEnd (W.contents writer.old) (W.contents writer.new) session table.old arena.old) }
 {
     let mut out = [0; 25664];
-    match script::finish(session, table, arena, &mut out) {
-        Written::Bytes(n) => write_out(writer, &out[..n]),
-        Written::NoRoom => unreachable!(),
+    match session.finish(table, arena, &mut out) {
+        Some(n) => write_out(writer, &out[..n]),
+        None => unreachable!(),
     }
 }
 
@@ -107,7 +106,7 @@ fn answer_script<R: Read, W: Write>(
     ensures ok { OnOk result (AnswersScript (R.remaining reader.old) (R.remaining reader.new) (W.contents writer.old) (W.contents writer.new) table.old arena.old) }
     ensures err { OnErr result (StopsScript (R.remaining reader.old) (W.contents writer.old) (W.contents writer.new) table.old arena.old) }
 {
-    let mut session = script::start();
+    let mut session = Session::start();
     answer_input(reader, writer, &mut session, table, arena)?;
     write_end(writer, session, table, arena)
 }

@@ -3,14 +3,13 @@
 use mathlib.Core.Path.{◌≡◌, refl, sym, ap, ◌∙◌, subst}
 use mathlib.Core.Bool.{Bool, true, false, not}
 use mathlib.Core.List.{List, [], ◌∷◌, ◌++◌, append_assoc, append-nil}
-use Rattle.std.specs.Prelude.{None, Some}
+use Rattle.std.specs.Prelude.{Option, None, Some, Result, Ok, Err}
 use Prim.Native.Nat.{ℕ, zero, suc, ◌+◌, ◌-◌, ◌*◌, ◌/◌, ◌%◌, ◌≤◌, ◌<◌, min}
 use native.Mathlib.Omega.{arith}
 use lib.Dec.{ltb, eqb}
 use lib.ListN.{length, take, drop, length-append, take-append-drop}
 use lib.Seq.{take_at}
 use borrow.Author.Tests.{eqb-true, not-true, le-leb, ne_eqb}
-use Rattle.model.specs.Numbers.{number_of, init_number_of}
 use Rattle.model.specs.Choose.{both, either, every}
 use Rattle.model.specs.Quantities.{Config, in_range}
 use Rattle.model.specs.Allocation.{State, fresh}
@@ -29,20 +28,18 @@ use Rattle.heap.proofs.ValidStored.{valid_kept, valid_range}
 use Rattle.heap.proofs.Makes.{init_leaves, init_range, fresh_kept, zero_invalid}
 use Rattle.heap.proofs.Laws.{alloc_invalid, free_invalid}
 use Rattle.script.specs.Text.{ascii, prefixed, pieces, ended, unended, is_digit, value_from, value_of, number_in, digits_within, decimal, spaced, line_of}
-use Rattle.script.specs.Commands.{read_line, answer_line}
+use Rattle.script.specs.Commands.{why_number, read_line, answer_line}
 use Rattle.script.specs.Machine.{Machine, machine, started, with_heap, most_bytes, seg_lines, plan, heap, words, bytes, stored, leaving, limit_order, make_order, made, answer_to, after, closing}
 use Rattle.script.specs.Session.{answers_to, after_lines, taken_of}
 use Rattle.script.specs.Steps.{part_of}
 use Rattle.script.proofs.Carrying.{either_true, either_false, same_reason, parts_whole}
-use Rattle.script.proofs.Writing.{length_decimal, refused_line, not_made_line}
+use Rattle.script.proofs.Writing.{length_decimal, why_line}
 use Rattle.script.proofs.Parts.{prefixed_none, ended_more, unended_more}
-use Rattle.script.specs.declared.Script.{Script}
+use Rattle.script.specs.declared.carrying_out.Script.{Script}
 use Rattle.model.specs.declared.Refusal.{Refusal}
-use Rattle.model.specs.declared.Made.TheVariants.{Done}
-use Rattle.script.specs.declared.Command.{Command}
-use Rattle.script.specs.declared.Command.TheVariants as command
-use Rattle.script.specs.declared.Answer.{Answer}
-use Rattle.script.specs.declared.Answer.TheVariants as answer
+use Rattle.script.specs.declared.command.Command.{Command}
+use Rattle.script.specs.declared.command.Command.TheVariants as command
+use Rattle.script.specs.declared.answer.Why.{Why}
 
 -- Pieces with the separator between them.
 abbrev pub joined_by : ℕ → List (List ℕ) → List ℕ
@@ -122,7 +119,7 @@ digits_some k n =
 
 -- What is written for a number is read as that number.
 pub number_decimal : (n : ℕ) → n ≤ 4294967295 → number_in (decimal n) ≡ Some n
-unfolding decimal
+unfolding decimal number_in
 number_decimal n h =
     rw (
       bounds_within 1 10 (length (digits_within (suc n) n)) (digits_some n n) (length_decimal 9 n (omega arith)),
@@ -158,13 +155,10 @@ line_piece word ns rest h =
     simp append_assoc (simp append_assoc at (plain_piece (word ++ spaced ns) rest (every_append plain word (spaced ns) h (spaced_plain ns))))
 
 -- An answer's line is a piece.
-answer_piece : (a : Answer) (rest : List ℕ) → (text : List ℕ) × (pieces 10 (answer_line a ++ rest) ≡ text ∷ pieces 10 rest)
-answer_piece (answer.Ok v) rest = (_, line_piece (ascii "ok") (v ∷ []) rest refl)
-answer_piece (answer.Refused r) rest =
-    (ascii "no" ++ spaced (number_of r ∷ []), rw (refused_line r) (line_piece (ascii "no") (number_of r ∷ []) rest refl))
-answer_piece (answer.NotMade r) rest =
-    (ascii "no" ++ spaced (init_number_of r ∷ []), rw (not_made_line r) (line_piece (ascii "no") (init_number_of r ∷ []) rest refl))
-answer_piece answer.Unreadable rest = (_, line_piece (ascii "no") (14 ∷ []) rest refl)
+answer_piece : (a : Result ℕ Why) (rest : List ℕ) → (text : List ℕ) × (pieces 10 (answer_line a ++ rest) ≡ text ∷ pieces 10 rest)
+answer_piece (Ok v) rest = (_, line_piece (ascii "ok") (v ∷ []) rest refl)
+answer_piece (Err w) rest =
+    (ascii "no" ++ spaced (why_number w ∷ []), rw (why_line w) (line_piece (ascii "no") (why_number w ∷ []) rest refl))
 
 -- The answers are as many lines as there were, and then nothing.
 answers_pieces : (m : Machine) (ls : List (List ℕ)) → (length (ended (pieces 10 (answers_to m ls))) ≡ length ls) × (unended (pieces 10 (answers_to m ls)) ≡ [])
@@ -186,11 +180,9 @@ pub answers_end : (m : Machine) (ls : List (List ℕ)) → unended (pieces 10 (a
 answers_end m ls = (answers_pieces m ls).1
 
 -- A command is answered with a value.
-abbrev pub is_ok : Answer → Bool
-is_ok (answer.Ok v) = true
-is_ok (answer.Refused r) = false
-is_ok (answer.NotMade r) = false
-is_ok answer.Unreadable = false
+abbrev pub is_ok : Result ℕ Why → Bool
+is_ok (Ok v) = true
+is_ok (Err w) = false
 
 -- What a call on the heap leaves if it leaves the heap as it was: the words as they were.
 leaving_same : (m : Machine) (bs : List ℕ) → leaving m (stored m) bs ≡ machine m.script m.table bs
@@ -203,28 +195,28 @@ all_same m =
     ∙ ap (λ bs. machine m.script m.table bs) (take-append-drop (16 * (heap m).granules) m.arena)
 
 -- A command that is refused, or cannot be read, leaves all as it was.
-pub refused_stays : (m : Machine) (k : Command) → is_ok (answer_to m k) ≡ false → after m k ≡ m
-refused_stays m (command.Limit o g b) e =
+pub refused_stays : (m : Machine) (k : Option Command) → is_ok (answer_to m k) ≡ false → after m k ≡ m
+refused_stays m (Some (command.Limit o g b)) e =
     split_option (first_reason (limit_order o)) (λ q. absurd (clash true refl (rw q at e))) (λ r q. rw q)
-refused_stays m (command.Make b r) e =
+refused_stays m (Some (command.Make b r)) e =
     split_option (first_reason (make_order m b r)) (λ q. absurd (clash true refl (rw q at e))) (λ r q. rw q)
-refused_stays m (command.Ask o n a) e =
+refused_stays m (Some (command.Ask o n a)) e =
     split_option (first_reason (alloc_order (is_valid (stored m)) (config (stored m)) (state (stored m)) (bytes m) o n a))
     (λ q. absurd (clash true refl (rw q at e)))
     (λ r q. rw q (all_same m))
-refused_stays m (command.Back o x) e =
+refused_stays m (Some (command.Back o x)) e =
     split_option (first_reason (free_order (is_valid (stored m)) (config (stored m)) (state (stored m)) (bytes m) o x))
     (λ q. absurd (clash true refl (rw q at e)))
     (λ r q. rw q (all_same m))
-refused_stays m command.Unreadable e = refl
+refused_stays m None e = refl
 
 -- A command is a make.
-abbrev pub is_make : Command → Bool
-is_make (command.Limit o g b) = false
-is_make (command.Make b r) = true
-is_make (command.Ask o n a) = false
-is_make (command.Back o x) = false
-is_make command.Unreadable = false
+abbrev pub is_make : Option Command → Bool
+is_make (Some (command.Limit o g b)) = false
+is_make (Some (command.Make b r)) = true
+is_make (Some (command.Ask o n a)) = false
+is_make (Some (command.Back o x)) = false
+is_make None = false
 
 -- Some make among the lines is granted.
 abbrev pub makes : Machine → List (List ℕ) → Bool
@@ -269,9 +261,9 @@ module _ (m : Machine) where
 
   module _ (b r : ℕ) (granted : first_reason (make_order m b r) ≡ None) where
     -- A make that is granted is a making that is not refused.
-    make_init : init (take b m.arena) (take (4 * r) m.table) (plan m) ≡ Done
+    make_init : init (take b m.arena) (take (4 * r) m.table) (plan m) ≡ Ok tt
     make_init =
-        let n : ℕ = part_of b (min most_bytes (length m.arena)) in
+        let n : ℕ = part_of b (min (length m.arena) most_bytes) in
         let k : ℕ = part_of (4 * r) (length m.table) in
         let whole : (n ≡ b) × (k ≡ 4 * r) = parts_whole m.script m.table m.arena b r n k refl refl granted in
         let q : first_reason (init_order (take n m.arena) (take k m.table) (plan m)) ≡ None =
@@ -290,35 +282,35 @@ module _ (m : Machine) where
         ∙ kept_valid c fresh m.script (drop (4 * r) m.table) [] ranged (fresh_kept c ranged)
 
   -- One command: there is a heap after it if there was one, or if it is a make that is granted.
-  step_valid : (k : Command) → is_valid (stored (after m k)) ≡ either (is_valid (stored m)) (both (is_make k) (is_ok (answer_to m k)))
-  step_valid (command.Limit o g b) =
+  step_valid : (k : Option Command) → is_valid (stored (after m k)) ≡ either (is_valid (stored m)) (both (is_make k) (is_ok (answer_to m k)))
+  step_valid (Some (command.Limit o g b)) =
       split_option (first_reason (limit_order o)) (λ q. rw q (sym (either_false _ false refl))) (λ t q. rw q (sym (either_false _ false refl)))
-  step_valid (command.Make b r) =
+  step_valid (Some (command.Make b r)) =
       split_option (first_reason (make_order m b r)) (λ q. rw q (make_valid b r q ∙ sym (either_true (is_valid (stored m)) true refl))) (λ t q. rw q (sym (either_false _ false refl)))
-  step_valid (command.Ask o n a) =
+  step_valid (Some (command.Ask o n a)) =
       call_stays (alloc_order (is_valid (stored m)) (config (stored m)) (state (stored m)) (bytes m) o n a) _ []
       (λ v. (alloc_invalid (stored m) v (bytes m) o n a 0).1)
       (λ v q. rw q at (keep_alloc (config (stored m)) (state (stored m)) (valid_kept (heap m) (words m) v) (is_valid (stored m)) (bytes m) o n a))
-  step_valid (command.Back o x) =
+  step_valid (Some (command.Back o x)) =
       call_stays (free_order (is_valid (stored m)) (config (stored m)) (state (stored m)) (bytes m) o x) _ []
       (λ v. (free_invalid (stored m) v (bytes m) o 0 0 x).1)
       (λ v q. rw q at (keep_free (config (stored m)) (state (stored m)) (valid_kept (heap m) (words m) v) (is_valid (stored m)) (bytes m) o x))
-  step_valid command.Unreadable = sym (either_false _ false refl)
+  step_valid None = sym (either_false _ false refl)
 
   -- A call on the heap leaves the guards as they were.
   call_guards : (order : Order Refusal) (h : State) (bs : List ℕ) → (heap (leaving m (afterwards (stored m) order h) bs)).guards ≡ (heap m).guards
   call_guards order h bs = split_option (first_reason order) (λ q. rw q) (λ r q. rw q)
 
   -- One command gives a heap without guards none.
-  step_unguarded : (k : Command) → (heap m).guards ≡ 0 → (heap (after m k)).guards ≡ 0
-  step_unguarded (command.Limit o g b) z = split_option (first_reason (limit_order o)) (λ q. rw q z) (λ r q. rw q z)
-  step_unguarded (command.Make b r) z =
+  step_unguarded : (k : Option Command) → (heap m).guards ≡ 0 → (heap (after m k)).guards ≡ 0
+  step_unguarded (Some (command.Limit o g b)) z = split_option (first_reason (limit_order o)) (λ q. rw q z) (λ r q. rw q z)
+  step_unguarded (Some (command.Make b r)) z =
       split_option (first_reason (make_order m b r))
       (λ q. rw q (split_option (first_reason (init_order (take b m.arena) (take (4 * r) m.table) (plan m))) (λ p. rw p) (λ t p. rw p)))
       (λ t q. rw q z)
-  step_unguarded (command.Ask o n a) z = call_guards (alloc_order (is_valid (stored m)) (config (stored m)) (state (stored m)) (bytes m) o n a) (placing (config (stored m)) (state (stored m)) o n a) [] ∙ z
-  step_unguarded (command.Back o x) z = call_guards (free_order (is_valid (stored m)) (config (stored m)) (state (stored m)) (bytes m) o x) (releasing (state (stored m)) x) [] ∙ z
-  step_unguarded command.Unreadable z = z
+  step_unguarded (Some (command.Ask o n a)) z = call_guards (alloc_order (is_valid (stored m)) (config (stored m)) (state (stored m)) (bytes m) o n a) (placing (config (stored m)) (state (stored m)) o n a) [] ∙ z
+  step_unguarded (Some (command.Back o x)) z = call_guards (free_order (is_valid (stored m)) (config (stored m)) (state (stored m)) (bytes m) o x) (releasing (state (stored m)) x) [] ∙ z
+  step_unguarded None z = z
 
 -- No heap of a script has guards: not after any lines.
 lines_unguarded : (m : Machine) (ls : List (List ℕ)) → (heap m).guards ≡ 0 → (heap (after_lines m ls)).guards ≡ 0

@@ -1,13 +1,14 @@
 -- Parts of lists, and texts that are set into them.
 -- Assumes nothing.
-use mathlib.Core.Path.{◌≡◌, sym, ap, ◌∙◌}
+use borrow.Rule.Slice.PartMut.{put_mid}
+use Rattle.std.proofs.lemmas.Slice.{put_mid-paste}
+use mathlib.Core.Path.{◌≡◌, refl, sym, ap, ◌∙◌}
 use mathlib.Core.List.{List, [], ◌∷◌, ◌++◌}
-use Prim.Native.Nat.{ℕ, suc, ◌+◌, ◌-◌, ◌≤◌, ◌<◌, min}
+use Prim.Native.Nat.{ℕ, suc, ◌+◌, ◌-◌, ◌≤◌, min}
 use native.Mathlib.Omega.{arith}
-use native.Mathlib.Numerals.{add-one}
 use lib.Dec.{leb}
-use lib.ListN.{length, get_or, set, take, drop, length-append, length-drop, drop_of_length-le}
-use lib.Seq.{sets, sets-eq, take_all, take-length, take-suc, take-add, take-take, take-append_seam, drop-length, drop_at, length-take-le}
+use lib.ListN.{length, set, take, drop, length-append, length-drop, drop_of_length-le}
+use lib.Seq.{sets, sets-eq, take_all, take-length, take-append_seam, drop-length, length-take-le}
 use Rattle.model.proofs.Choosing.{split, tests}
 use Rattle.script.specs.Text.{at_front}
 
@@ -21,25 +22,9 @@ at_most k n l e =
     let h : length l ≤ k = omega tests in
     (rw z (take-length l ∙ sym (take_all k l h)), rw z (drop-length l ∙ sym (drop_of_length-le l h))))
 
--- They are so many.
-pub length_lent : (k : ℕ) (l : List ℕ) (n : ℕ) → n ≡ min k (length l) → n ≡ length (take n l)
-length_lent k l n e = sym (length-take-le n l (omega arith))
-
 -- The part of a text from place i on, as a loan of it is made.
 pub rest_part : (l : List ℕ) (i : ℕ) → take (length l - i) (drop i l) ≡ drop i l
 rest_part l i = take_all (length l - i) (drop i l) (omega (arith, length-drop i l))
-
--- The end of a part, from a place on.
-pub drop_take : (l : List ℕ) (a t : ℕ) → a ≤ t → t ≤ length l → drop a (take t l) ≡ take (t - a) (drop a l)
-drop_take l a t h k =
-    let z : t ≡ a + (t - a) = omega arith in
-    let n : length (take a l) ≡ a = length-take-le a l (omega arith) in
-    ap (λ (x : ℕ). drop a (take x l)) z ∙ rw (take-add a (t - a) l) (drop_at (take a l) (take (t - a) (drop a l)) a n)
-
--- A part of a part is a part.
-pub take_middle : (l : List ℕ) (a e t : ℕ) → a ≤ e → e ≤ t → t ≤ length l → take (e - a) (drop a l) ≡ take (e - a) (drop a (take t l))
-take_middle l a e t h k m =
-    rw (drop_take l a t (omega arith) m) (sym (take-take (e - a) (t - a) (drop a l) (omega arith)))
 
 -- Bytes that are set after others are set with them.
 pub sets_append : (l : List ℕ) (i : ℕ) (a b : List ℕ) → sets (sets l i a) (i + length a) b ≡ sets l i (a ++ b)
@@ -47,12 +32,9 @@ sets_append l i [] b = let z : i + 0 ≡ i = omega arith in rw z
 sets_append l i (x ∷ a) b =
     let z : i + suc (length a) ≡ suc i + length a = omega arith in rw z (sets_append (set l i x) (suc i) a b)
 
--- The next byte of a text is set after those before it.
-pub sets_more : (l text : List ℕ) (from i : ℕ) → i < length text
-    → set (sets l from (take i text)) (from + i) (get_or text i 0) ≡ sets l from (take (i + 1) text)
-sets_more l text from i h =
-    let n : length (take i text) ≡ i = length-take-le i text (omega arith) in
-    rw (add-one, take-suc text i 0, ← sets_append l from (take i text) (get_or text i 0 ∷ []), n)
+-- A text that is copied into a part is set there.
+pub copied : (l text ys : List ℕ) (at k : ℕ) → at + length text ≤ length l → ys ≡ text → k ≡ length text → put_mid at k l ys ≡ sets l at text
+copied l text ys at k h e z = put_mid-paste at k l ys text (length text) e (sym z) refl ∙ rw take-length (sym (sets-eq text l at h))
 
 -- A text that is set from the start on stands at the front.
 pub sets_front : (text l : List ℕ) → length text ≤ length l → sets l 0 text ≡ at_front text l

@@ -12,7 +12,7 @@ use Rattle.script.specs.Performed.{Feeds, Performed, NoLineLost}
 use Rattle.script.proofs.Lists.{front_text}
 use Rattle.script.proofs.Parts.{in_parts, in_parts_lem}
 use Rattle.script.proofs.Finishing.{has_room}
-use Rattle.script.specs.declared.Session.{Session}
+use Rattle.script.specs.declared.session.Session.{Session}
 
 -- The pieces are those of the part that is taken.
 taken_part : (s : Session) (words bytes part : List ℕ) (f : Feeds s words bytes part) → fed_pieces s words bytes f.input f.room ≡ pieces_with (held s) part
@@ -33,12 +33,12 @@ parts_performed (part ∷ parts) s words bytes text p =
     let written : take f.out.written f.room_after ≡ answers_to m (ended (pieces_with (held s) part)) =
     front_text (fed_text s words bytes f.input f.room) f.room f.room_after f.out.written f.done.written f.done.buffer
     ∙ ap (λ (ls : List (List ℕ)). answers_to m (ended ls)) w in
-    let leaves : machine f.out.session.script f.words_after f.bytes_after ≡ after_lines m (ended (pieces_with (held s) part)) =
+    let leaves : machine f.s_after.script f.words_after f.bytes_after ≡ after_lines m (ended (pieces_with (held s) part)) =
     f.done.leaves ∙ ap (λ (ls : List (List ℕ)). after_lines m (ended ls)) w in
-    let begun : held f.out.session ≡ take most_held (unended (pieces_with (held s) part)) =
-    front_text (take most_held (unended (fed_pieces s words bytes f.input f.room))) s.line f.out.session.line f.out.session.count f.done.count f.done.line
+    let begun : held f.s_after ≡ take most_held (unended (pieces_with (held s) part)) =
+    front_text (take most_held (unended (fed_pieces s words bytes f.input f.room))) s.held.line f.s_after.held.line f.s_after.held.count f.done.count f.done.line
     ∙ ap (λ (ls : List (List ℕ)). take most_held (unended ls)) w in
-    p.2 ∙ rw (written, parts_performed parts f.out.session f.words_after f.bytes_after rest p.3, leaves, begun)
+    p.2 ∙ rw (written, parts_performed parts f.s_after f.words_after f.bytes_after rest p.3, leaves, begun)
 
 -- No line is lost or answered twice.
 pub no_line_lost : NoLineLost

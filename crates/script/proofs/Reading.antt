@@ -1,85 +1,98 @@
--- How a line is read: its pieces, its numbers and its words, one byte after the other.
+-- How a line is read: its fields, its numbers, and where it ends.
 -- Assumes nothing.
-use mathlib.Core.Path.{◌≡◌, refl, sym, ap, ◌∙◌, subst}
-use mathlib.Core.Bool.{true, false}
-use mathlib.Core.List.{List, [], ◌∷◌}
-use Rattle.std.specs.Prelude.{Option, None, Some}
-use Prim.Native.Nat.{ℕ, suc, ◌+◌, ◌-◌, ◌*◌, ◌≤◌, ◌<◌}
-use native.Mathlib.Numerals.{add-one}
-use native.Mathlib.Omega.{arith}
-use lib.Dec.{eqb}
-use lib.ListN.{length, get_or, take, drop, drop_of_length-le}
-use lib.Seq.{drop-cons, drop-drop}
-use borrow.Author.Tests.{eqb-true, eq-eqb, ne_eqb, leb-true, le-leb, lt-leb}
-use Rattle.model.specs.Choose.{every}
+use Rattle.std.proofs.Common.{◌≡◌, ℕ, suc, ◌+◌, ◌-◌, ◌*◌, ◌≤◌, ◌<◌, Bool, true, false, List, [], ◌∷◌, ◌++◌, refl, sym, ap, ◌∙◌, subst, eqb, length, get_or, take, drop, drop-cons, drop_of_length-le, add-one, arith, Option, Some, None, Bor}
+use mathlib.Core.Bool.{cond}
+use denote.Param.Members.{Mut}
+use lib.Dec.{ltb}
+use borrow.Author.Tests.{leb-true, le-leb, lt-leb, le-ltb}
+use Rattle.std.specs.Bool.{MatchBool}
+use Rattle.std.specs.Option.{option_map}
+use Rattle.std.specs.List.{slice_split, onto_first, position, position_or_len, All, IsFirstMatchOrLen}
+use Rattle.std.specs.Slice.Iter.{split_steps, split_rest, split_done, split_callee}
+use Rattle.std.specs.Fn.{ComputesKey, CalledAt}
+use Rattle.std.proofs.lemmas.List.Splits.{slice_split_none, slice_split_at, slice_split_first}
+use Rattle.std.proofs.lemmas.Fn.{always_returns_same}
+use Rattle.std.proofs.lemmas.Grind.{common_steps}
+use Rattle.model.specs.Choose.{choose, every}
 use Rattle.model.specs.Quantities.{within}
-use Rattle.model.proofs.Choosing.{split, split_option, both_left, both_right, parts, every_head}
+use Rattle.model.proofs.Choosing.{split, parts, tests, every_head}
 use Rattle.model.proofs.Ranges.{within_least, within_most, bounds_within}
-use Rattle.script.specs.Text.{ascii, pieces, is_digit, value_from, value_of, is_number, number_in, same}
-use Rattle.script.specs.Commands.{with_two, with_three, command_of, read_line}
-use Rattle.script.specs.Steps.{before, following, number_read, with_number, numbers_read, word_read, command_of_two, command_of_three, command_for}
-use Rattle.script.proofs.Lists.{rest_part}
-use Rattle.script.specs.declared.Command.TheVariants as command
-use Rattle.script.specs.declared.Number.{Number}
-use Rattle.script.specs.declared.Numbers.{Numbers}
-use Rattle.script.specs.declared.Numbers.TheVariants.{Zero, Unreadable}
+use Rattle.script.specs.Text.{prefixed, pieces, fields_of, is_digit, value_from, value_of, is_number, number_in}
+use Rattle.script.specs.Commands.{command_of, read_line}
+use Rattle.script.specs.Steps.{firsts}
 
--- There are no more bytes before the first separator than there are bytes.
-pub before_most : (s : ℕ) (l : List ℕ) → before s l ≤ length l
-before_most s [] = omega arith
-before_most s (b ∷ bs) = split (eqb b s) (λ q. rw q (omega arith)) (λ q. rw q (omega (arith, before_most s bs)))
+-- A byte before the first piece stands at its front.
+prefixed_onto : (b : ℕ) (fs : List (List ℕ)) → prefixed (b ∷ []) fs ≡ onto_first b fs
+prefixed_onto b [] = refl
+prefixed_onto b (f ∷ fs) = refl
 
--- The first piece is what stands before the first separator.
-pub pieces_first : (s : ℕ) (l : List ℕ) → pieces s l ≡ take (before s l) l ∷ following s (drop (before s l) l)
-pieces_first s [] = refl
-pieces_first s (b ∷ bs) = split (eqb b s) (λ q. rw q) (λ q. rw (q, pieces_first s bs))
+-- A choice is std's.
+chosen : {A : Type 0} (t : Bool) (a b : A) → choose t a b ≡ cond t a b
+chosen true a b = refl
+chosen false a b = refl
 
--- A search for a separator, from place i on.
-module _ (s : ℕ) (l : List ℕ) (i : ℕ) where
-  -- It is at i.
-  pub before_here : i < length l → get_or l i 0 ≡ s → before s (drop i l) ≡ 0
-  before_here h q = rw (drop-cons l i 0 h, eq-eqb (get_or l i 0) s q)
+-- The pieces are those that std's `split` gives.
+pub pieces_split : (s : ℕ) (l : List ℕ) → pieces s l ≡ slice_split (λ b. eqb b s) l
+pieces_split s [] = refl
+pieces_split s (b ∷ l) = rw (pieces_split s l, prefixed_onto, chosen)
 
-  -- It is not at i.
-  pub before_more : i < length l → (get_or l i 0 ≡ s → ⊥) → before s (drop i l) ≡ suc (before s (drop (i + 1) l))
-  before_more h q = rw (add-one i, drop-cons l i 0 h, ne_eqb (get_or l i 0) s q)
+-- The first part that a call of `next` takes off.
+part_first : {A : Type 0} (p : A → Bool) (xs x rest : List A) (done : Bool) → MatchBool done (xs ≡ x) ((y : A) × (xs ≡ x ++ (y ∷ rest))) → IsFirstMatchOrLen p xs (length x)
+    → slice_split p xs ≡ x ∷ cond done [] (slice_split p rest)
+part_first p xs x rest true e h = ap (slice_split p) e ∙ slice_split_none p x (λ k d l. subst (λ ys. p (get_or ys k d) ≡ false) e (h.0 k d (omega arith) l))
+part_first p xs x rest false e h =
+    let front : All (λ z. p z ≡ false) x = λ k d l. let a = h.0 k d (omega arith) l in let b = e.1 in grind (arith, common_steps) in
+    let hit : p e.0 ≡ true = let b = e.1 in let a = h.1 (grind (arith, common_steps)) e.0 in grind (arith, common_steps) in
+    ap (slice_split p) e.1 ∙ slice_split_at p x e.0 rest front hit
 
-  -- There is no byte at i.
-  pub before_none : length l ≤ i → before s (drop i l) ≡ 0
-  before_none h = rw (drop_of_length-le l h)
+-- The parts that a `split` by the test p still gives.
+module _ {F : Type 0} (g : Mut F (Bor ℕ × Unit {0}) Bool) (p : ℕ → Bool) where
+  abbrev left : Bool → List ℕ → List (List ℕ)
+  left done rest = cond done [] (slice_split p rest)
 
--- The first piece of what follows place i is what stands after i and before the next separator.
-following_first : (s : ℕ) (l : List ℕ) (i n : ℕ) → i < length l → n ≡ before s (drop (i + 1) l) → following s (drop i l) ≡ take n (drop (i + 1) l) ∷ following s (drop (i + 1 + n) l)
-following_first s l i n h e =
-    rw (drop-cons l i 0 h, ← add-one i, pieces_first s (drop (i + 1) l), ← e, drop-drop n (i + 1) l)
+  -- A call of `next` takes the first of them.
+  pub next_part : (s t : _) (r : Option (Bor (List ℕ))) → split_steps g s r t → ComputesKey g p (split_callee s)
+      → ComputesKey g p (split_callee t) × ((k : ℕ) → firsts (suc k) (left (split_done s) (split_rest s)) ≡ option_map (λ f. f.now) r ∷ firsts k (left (split_done t) (split_rest t)))
+  next_part s t None h c = (subst (λ u. ComputesKey g p (split_callee u)) (sym h.1) c, λ k. rw (h.1, h.0))
+  next_part s t (Some x) h c = (
+    (h.2 p c).0,
+    λ k.
+        ap (λ b. firsts (suc k) (cond b [] (slice_split p (split_rest s)))) h.0
+        ∙ ap (firsts (suc k)) (part_first p _ x.now _ (split_done t) h.1 (h.2 p c).1),
+  )
 
--- Texts with the same bytes are equal.
-same_equal : (a b : List ℕ) → same a b ≡ true → a ≡ b
-same_equal [] [] e = refl
-same_equal [] (y ∷ b) e = let z : ◌≡◌ {A = ℕ} 0 1 = cc in absurd (omega arith)
-same_equal (x ∷ a) [] e = let z : ◌≡◌ {A = ℕ} 0 1 = cc in absurd (omega arith)
-same_equal (x ∷ a) (y ∷ b) e =
-    let p : x ≡ y = eqb-true x y (both_left (eqb x y) (same a b) e) in
-    let q : a ≡ b = same_equal a b (both_right (eqb x y) (same a b) e) in
-    cc
+  -- A closure that stays as it is computes p at each call.
+  pub same_test : (f : F) → ((x : ℕ) (b : Bool) (q : F) → CalledAt g f x b q → (q ≡ f) × (b ≡ p x)) → ComputesKey g p f
+  same_test f tests =
+      always_returns_same g (λ a r. r ≡ p a.0.now) f (λ a r q k. let m = tests a.0.now r q (record { shown = a.0; shows = refl; called = k }) in (m.1, m.0))
 
--- Texts of different lengths have not the same bytes.
-pub same_lengths : (a b : List ℕ) → (length a ≡ length b → ⊥) → same a b ≡ false
-same_lengths a b h = split (same a b) (λ q. absurd (h (ap length (same_equal a b q)))) (λ q. q)
+-- Without a newline there is one piece.
+pub newline_none : (l : List ℕ) → position (λ b. eqb b 10) l ≡ None → pieces 10 l ≡ l ∷ []
+newline_none [] e = refl
+newline_none (b ∷ l) e =
+    let p : ℕ → Bool = λ b. eqb b 10 in
+    let over : length (b ∷ l) ≤ position_or_len p (b ∷ l) =
+    split (ltb (position_or_len p (b ∷ l)) (length (b ∷ l)))
+    (λ q. let z : Some (position_or_len p (b ∷ l)) ≡ None = rw q at e in let y : ◌≡◌ {A = ℕ} 0 1 = cc in absurd (omega arith))
+    (λ q. omega tests) in
+    split (eqb b 10)
+    (λ q. let h : suc (length l) ≤ 0 = rw q at over in absurd (omega arith))
+    (λ q.
+    let h : suc (length l) ≤ 1 + position_or_len p l = rw q at over in
+    let e' : position p l ≡ None = rw (le-ltb (position_or_len p l) (length l) (omega arith)) refl in
+    rw (q, newline_none l e'))
 
--- A comparison of two texts, from place i on.
-module _ (a b : List ℕ) (i : ℕ) where
-  -- The bytes at i are equal: those after it decide.
-  pub same_more : i < length a → i < length b → get_or a i 0 ≡ get_or b i 0 → same (drop i a) (drop i b) ≡ same (drop (i + 1) a) (drop (i + 1) b)
-  same_more h k q = rw (add-one i, drop-cons a i 0 h, drop-cons b i 0 k, eq-eqb (get_or a i 0) (get_or b i 0) q)
-
-  -- The bytes at i differ.
-  pub same_not : i < length a → i < length b → (get_or a i 0 ≡ get_or b i 0 → ⊥) → same (drop i a) (drop i b) ≡ false
-  same_not h k q = rw (drop-cons a i 0 h, drop-cons b i 0 k, ne_eqb (get_or a i 0) (get_or b i 0) q)
-
-  -- There are no bytes at i.
-  pub same_none : length a ≤ i → length b ≤ i → same (drop i a) (drop i b) ≡ true
-  same_none h k = rw (drop_of_length-le a h, drop_of_length-le b k)
+-- The first newline ends the first piece.
+pub newline_some : (l : List ℕ) (n : ℕ) → position (λ b. eqb b 10) l ≡ Some n → (n < length l) × (pieces 10 l ≡ take n l ∷ pieces 10 (drop (n + 1) l))
+newline_some l n e =
+    split (ltb (position_or_len (λ b. eqb b 10) l) (length l))
+    (λ q.
+    let z : Some (position_or_len (λ b. eqb b 10) l) ≡ Some n = rw q at e in
+    let y : position_or_len (λ b. eqb b 10) l ≡ n = cc in (
+      omega tests,
+      pieces_split 10 l ∙ slice_split_first (λ b. eqb b 10) l 0 (omega tests) ∙ rw y (ap (λ fs. take n l ∷ fs) (sym (pieces_split 10 (drop (n + 1) l)))),
+    ))
+    (λ q. let z : None ≡ Some n = rw q at e in let y : ◌≡◌ {A = ℕ} 0 1 = cc in absurd (omega arith))
 
 -- What a number is.
 pub record Readable (f : List ℕ) : Type 0 where
@@ -101,6 +114,7 @@ readable f e =
 
 -- A field that is no number has none.
 pub no_number : (f : List ℕ) → (Readable f → ⊥) → None ≡ number_in f
+unfolding number_in
 no_number f h = split (is_number f) (λ q. absurd (h (readable f q))) (λ q. rw q)
 
 -- A field has no number if the byte at place i, before which all are digits, is none.
@@ -112,6 +126,7 @@ stray_byte f i h e q =
 
 -- A field that is a number has its value.
 pub a_number : (f : List ℕ) → Readable f → Some (value_of f) ≡ number_in f
+unfolding number_in
 a_number f r = rw (bounds_within 1 10 (length f) r.some_digits r.few, r.digits, le-leb (value_of f) 4294967295 r.fits)
 
 -- Further digits make a value no smaller.
@@ -129,80 +144,12 @@ module _ (v : ℕ) (f : List ℕ) (i : ℕ) where
   pub value_none : length f ≤ i → value_from v (drop i f) ≡ v
   value_none h = rw (drop_of_length-le f h)
 
--- The numbers of the fields from place i on, after others that were found.
-module _ (found : Numbers) (l : List ℕ) (i : ℕ) where
-  -- A field follows, of n bytes.
-  pub numbers_more : (n : ℕ) (next : Number) (then : Numbers) → i < length l
-      → n ≡ before 32 (take (length l - (i + 1)) (drop (i + 1) l))
-      → number_read next ≡ number_in (take (i + 1 + n - (i + 1)) (drop (i + 1) l))
-      → then ≡ with_number found (number_read next)
-      → numbers_read found (following 32 (drop i l)) ≡ numbers_read then (following 32 (drop (i + 1 + n) l))
-  numbers_more n next then h p q r =
-      let z : i + 1 + n - (i + 1) ≡ n = omega arith in
-      rw (following_first 32 l i n h (rw (rest_part l (i + 1)) at p), r, q, z)
-
-  -- No field follows.
-  pub numbers_none : length l ≤ i → numbers_read found (following 32 (drop i l)) ≡ found
-  numbers_none h = rw (drop_of_length-le l h)
-
--- What cannot be read stays so with one more number.
-unreadable_with : (x : Option ℕ) → with_number Unreadable x ≡ Unreadable
-unreadable_with None = refl
-unreadable_with (Some n) = refl
-
--- What cannot be read stays so with further fields.
-unreadable_read : (fs : List (List ℕ)) → numbers_read Unreadable fs ≡ Unreadable
-unreadable_read [] = refl
-unreadable_read (f ∷ fs) = rw (unreadable_with (number_in f)) (unreadable_read fs)
-
--- What holds of each command's word, and of a text that is none of them, holds of every text.
-by_word : (G : List ℕ → Type 0) → G (ascii "limit") → G (ascii "make") → G (ascii "ask") → G (ascii "back")
-    → ((w : List ℕ) → same w (ascii "limit") ≡ false → same w (ascii "make") ≡ false → same w (ascii "ask") ≡ false → same w (ascii "back") ≡ false → G w)
-    → (w : List ℕ) → G w
-by_word G l m a b o w =
-    let is : (v : List ℕ) → G v → same w v ≡ true → G w = λ v g q. subst G (sym (same_equal w v q)) g in
-    split (same w (ascii "limit")) (is (ascii "limit") l) (λ p. split (same w (ascii "make")) (is (ascii "make") m)
-    (λ q. split (same w (ascii "ask")) (is (ascii "ask") a) (λ r. split (same w (ascii "back")) (is (ascii "back") b) (o w p q r))))
-
--- A word with two numbers.
-two_numbers : (w : List ℕ) (x y : Option ℕ) → with_two w x y ≡ command_for (word_read w) (with_number (with_number Zero x) y)
-two_numbers w (Some a) (Some b) =
-    by_word (λ v. with_two v (Some a) (Some b) ≡ command_of_two (word_read v) a b) refl refl refl refl (λ v p q r s. rw (p, q, r, s)) w
-two_numbers w (Some a) None = refl
-two_numbers w None y = rw (unreadable_with y)
-
--- A word with three numbers.
-three_numbers : (w : List ℕ) (x y z : Option ℕ) → with_three w x y z ≡ command_for (word_read w) (with_number (with_number (with_number Zero x) y) z)
-three_numbers w (Some a) (Some b) (Some c) =
-    by_word (λ v. with_three v (Some a) (Some b) (Some c) ≡ command_of_three (word_read v) a b c) refl refl refl refl (λ v p q r s. rw (p, q, r, s)) w
-three_numbers w (Some a) (Some b) None = refl
-three_numbers w (Some a) None z = rw (unreadable_with z)
-three_numbers w None y z = rw (unreadable_with y, unreadable_with z)
-
--- Four numbers are too many.
-four_numbers : (x y z v : Option ℕ) → with_number (with_number (with_number (with_number Zero x) y) z) v ≡ Unreadable
-four_numbers (Some a) (Some b) (Some c) (Some d) = refl
-four_numbers (Some a) (Some b) (Some c) None = refl
-four_numbers (Some a) (Some b) None v = unreadable_with v
-four_numbers (Some a) None z v = rw (unreadable_with z) (unreadable_with v)
-four_numbers None y z v = rw (unreadable_with y, unreadable_with z) (unreadable_with v)
-
--- A command is that of its word and of the numbers after it.
-command_parts : (w : List ℕ) (fs : List (List ℕ)) → command_of (w ∷ fs) ≡ command_for (word_read w) (numbers_read Zero fs)
-command_parts w [] = refl
-command_parts w (a ∷ []) = split_option (number_in a) (λ q. rw q) (λ n q. rw q)
-command_parts w (a ∷ b ∷ []) = two_numbers w (number_in a) (number_in b)
-command_parts w (a ∷ b ∷ c ∷ []) = three_numbers w (number_in a) (number_in b) (number_in c)
-command_parts w (a ∷ b ∷ c ∷ d ∷ fs) = rw (four_numbers (number_in a) (number_in b) (number_in c) (number_in d), unreadable_read fs)
-
 -- A line that is too long cannot be read.
-pub long_line : (l : List ℕ) → 80 < length l → command.Unreadable ≡ read_line l
+pub long_line : (l : List ℕ) → 80 < length l → None ≡ read_line l
 unfolding read_line
 long_line l h = rw (lt-leb (length l) 80 h)
 
--- A line is read in two parts: its word, which ends before the first space, and its numbers.
-pub line_parts : (l : List ℕ) (n : ℕ) → length l ≤ 80 → n ≡ before 32 l
-    → command_for (word_read (take n l)) (numbers_read Zero (following 32 (take (length l - n) (drop n l)))) ≡ read_line l
+-- A line that is not is a command by its fields.
+pub short_line : (l : List ℕ) → length l ≤ 80 → command_of (fields_of l) ≡ read_line l
 unfolding read_line
-line_parts l n h e =
-    rw (rest_part l n, le-leb (length l) 80 h, pieces_first 32 l, ← e) (sym (command_parts (take n l) (following 32 (drop n l))))
+short_line l h = rw (le-leb (length l) 80 h)

@@ -9,11 +9,11 @@ use native.Mathlib.Nat.{pow-suc}
 use native.Mathlib.Numerals.{add-one}
 use native.Mathlib.Omega.{arith}
 use lib.Dec.{ltb}
-use lib.ListN.{length, take, drop, set, length-append}
+use lib.ListN.{length, take, drop, get_or, set, length-append, take-append-drop}
+use lib.Seq.{length-sets, take-suc, drop-cons}
 use borrow.Author.Tests.{lt-ltb, le-ltb}
 use Rattle.model.specs.Choose.{choose, total}
 use Rattle.model.specs.Orders.{totals_order}
-use Rattle.model.specs.Numbers.{number_of, init_number_of}
 use Rattle.model.proofs.Choosing.{split, tests}
 use Rattle.script.specs.Text.{ascii, digits_within, decimal, spaced, line_of}
 use Rattle.script.specs.Machine.{machine, seg_line, seg_lines, closing, closing_with}
@@ -23,19 +23,24 @@ use Rattle.segments.proofs.Reading.{row_below}
 use Rattle.heap.specs.Stored.{handed}
 use Rattle.heap.specs.Valid.{valid}
 use Rattle.heap.specs.Calls.{totals_of}
-use Rattle.heap.specs.Promises.{TotalsDone}
 use Rattle.heap.proofs.Changing.{Bounds, bounds}
 use Rattle.model.specs.declared.Segment.{Segment}
 use Rattle.model.specs.declared.Refusal.{Refusal}
 use Rattle.model.specs.declared.Refusal.TheVariants as refusal
-use Rattle.model.specs.declared.InitRefusal.{InitRefusal}
 use Rattle.model.specs.declared.InitRefusal.TheVariants as init_refusal
-use Rattle.script.specs.Commands.{answer_line}
-use Rattle.script.specs.declared.Answer.TheVariants as answer
+use Rattle.script.specs.Commands.{answer_line, why_number}
+use Rattle.script.specs.declared.answer.Why.{Why}
+use Rattle.script.specs.declared.answer.Why.TheVariants as why
+use Rattle.std.specs.Fmt as std
+use Rattle.std.proofs.lemmas.Fmt.{decimal_by_steps}
 use Rattle.model.specs.declared.Totals.{Totals}
 use Rattle.heap.specs.declared.record.Heap.{Heap}
 use Rattle.script.proofs.Lists.{sets_append, at_most}
-use Rattle.script.specs.declared.Script.{Script}
+use Rattle.script.specs.declared.carrying_out.Script.{Script}
+
+-- The buffer keeps its length.
+pub put_length : {text buffer after : List ℕ} {at p : ℕ} → Put text buffer at p after → length after ≡ length buffer
+put_length {text} {buffer} {after} {at} {p} f = ap length f.bytes ∙ length-sets buffer at text
 
 -- Where nothing is put, the place and the buffer stay.
 pub put_none : {buffer : List ℕ} {at p : ℕ} → p ≡ at → Put [] buffer at p buffer
@@ -51,7 +56,7 @@ put_append {a} {b} {buffer} {mid} {after} {at} {p} {q} f g =
     record { end = omega (arith, length-append a b); bytes = g.bytes ∙ rw (f.bytes, f.end) (sets_append buffer at a b) }
 
 -- What is put is put as any text that equals it.
-put_same : {a b buffer after : List ℕ} {at p : ℕ} → a ≡ b → Put a buffer at p after → Put b buffer at p after
+pub put_same : {a b buffer after : List ℕ} {at p : ℕ} → a ≡ b → Put a buffer at p after → Put b buffer at p after
 put_same {a} {b} {buffer} {after} {at} {p} e f = subst (λ (t : List ℕ). Put t buffer at p after) e f
 
 -- The digits of a number do not depend on how many more there may be.
@@ -98,39 +103,62 @@ length_spaced (n ∷ ns) = omega (arith, length-append (decimal n) (spaced ns), 
 pub length_line : (word ns : List ℕ) → length (line_of word ns) ≡ length word + (total (λ (n : ℕ). suc (length (decimal n))) ns + 1)
 length_line word ns = simp length-append (omega (arith, length_spaced ns))
 
--- A number that is put before others is one more of them.
-pub put_spaced : (n : ℕ) (ns : List ℕ) {buffer mid after : List ℕ} {at p q : ℕ} → Put (spaced (n ∷ [])) buffer at p mid → Put (spaced ns) mid p q after
-    → Put (spaced (n ∷ ns)) buffer at q after
-put_spaced n ns f g = let z : (decimal n ++ []) ++ spaced ns ≡ decimal n ++ spaced ns = simp append_assoc in rw z at (put_append f g)
+-- The numbers up to one more are those before it, and that number.
+spaced_append : (ns ms : List ℕ) → spaced (ns ++ ms) ≡ spaced ns ++ spaced ms
+spaced_append [] ms = refl
+spaced_append (n ∷ ns) ms = rw (spaced_append ns ms) (ap (λ l. 32 ∷ l) (sym (append_assoc (decimal n) (spaced ns) (spaced ms))))
+
+-- A number that is put after others is one more of them.
+pub put_number : (word ns : List ℕ) (i : ℕ) → i < length ns → {buffer mid after : List ℕ} {at p q : ℕ} → Put (word ++ spaced (take i ns)) buffer at p mid
+    → Put (spaced (get_or ns i 0 ∷ [])) mid p q after → Put (word ++ spaced (take (i + 1) ns)) buffer at q after
+put_number word ns i h f g =
+    rw (add-one i, take-suc ns i 0 h, spaced_append) (rw append_assoc at (put_append f g))
+
+-- The numbers up to some are no longer than all of them.
+pub spaced_most : (ns : List ℕ) (i : ℕ) → i < length ns → length (spaced (take i ns)) + length (spaced (get_or ns i 0 ∷ [])) ≤ length (spaced ns)
+spaced_most ns i h =
+    let cut : spaced ns ≡ spaced (take i ns) ++ (32 ∷ (decimal (get_or ns i 0) ++ spaced (drop (suc i) ns))) =
+    ap spaced (sym (take-append-drop i ns)) ∙ spaced_append (take i ns) (drop i ns) ∙ ap (λ l. spaced (take i ns) ++ spaced l) (drop-cons ns i 0 h) in
+    omega (
+      arith,
+      ap length cut,
+      length-append (spaced (take i ns)) (32 ∷ (decimal (get_or ns i 0) ++ spaced (drop (suc i) ns))),
+      length-append (decimal (get_or ns i 0)) (spaced (drop (suc i) ns)),
+      length-append (decimal (get_or ns i 0)) [],
+    )
+
+-- std writes a number in the same digits.
+pub decimal_std : (n : ℕ) → n < 2 ^ 64 → std.decimal n ≡ decimal n
+decimal_std =
+    decimal_by_steps (λ n ds. ds ≡ decimal n) (λ n h. sym (decimal_one n h))
+    (λ n ds h e. rw e (sym (decimal_more n h)))
 
 -- A line with one number that fits 32 bits has at most 12 bytes after its word.
 pub one_most : (word : List ℕ) (n : ℕ) → n < 2 ^ 32 → length (line_of word (n ∷ [])) ≤ length word + 12
 one_most word n h = omega (arith, length_line word (n ∷ []), length_decimal 9 n (omega arith))
 
--- Each refusal has a number, so that it is written `no N`.
-pub refused_line : (r : Refusal) → answer_line (answer.Refused r) ≡ line_of (ascii "no") (number_of r ∷ [])
-refused_line refusal.InvalidHeap = refl
-refused_line refusal.BadOwner = refl
-refused_line refusal.ZeroSize = refl
-refused_line refusal.BadAlignment = refl
-refused_line refusal.BlockQuota = refl
-refused_line refusal.GranuleQuota = refl
-refused_line refusal.NoPlace = refl
-refused_line refusal.TableFull = refl
-refused_line refusal.InsideBlock = refl
-refused_line refusal.OtherOwner = refl
-refused_line refusal.ArenaLength = refl
-refused_line refusal.PastEnd = refl
-refused_line refusal.NotAligned = refl
-refused_line refusal.FreeMemory = refl
-refused_line refusal.BrokenGuard = refl
-
--- So is each refusal of a making.
-pub not_made_line : (r : InitRefusal) → answer_line (answer.NotMade r) ≡ line_of (ascii "no") (init_number_of r ∷ [])
-not_made_line init_refusal.ArenaLength = refl
-not_made_line init_refusal.BadBase = refl
-not_made_line init_refusal.TableLength = refl
-not_made_line init_refusal.BadQuota = refl
+-- Each reason has a number, so that it is written `no N`.
+pub why_line : (w : Why) → answer_line (Err w) ≡ line_of (ascii "no") (why_number w ∷ [])
+why_line (why.Call refusal.InvalidHeap) = refl
+why_line (why.Call refusal.BadOwner) = refl
+why_line (why.Call refusal.ZeroSize) = refl
+why_line (why.Call refusal.BadAlignment) = refl
+why_line (why.Call refusal.BlockQuota) = refl
+why_line (why.Call refusal.GranuleQuota) = refl
+why_line (why.Call refusal.NoPlace) = refl
+why_line (why.Call refusal.TableFull) = refl
+why_line (why.Call refusal.InsideBlock) = refl
+why_line (why.Call refusal.OtherOwner) = refl
+why_line (why.Call refusal.ArenaLength) = refl
+why_line (why.Call refusal.PastEnd) = refl
+why_line (why.Call refusal.NotAligned) = refl
+why_line (why.Call refusal.FreeMemory) = refl
+why_line (why.Call refusal.BrokenGuard) = refl
+why_line (why.Make init_refusal.ArenaLength) = refl
+why_line (why.Make init_refusal.BadBase) = refl
+why_line (why.Make init_refusal.TableLength) = refl
+why_line (why.Make init_refusal.BadQuota) = refl
+why_line why.Unreadable = refl
 
 -- The line of an answer, a word of two letters and a number, has at most 14 bytes.
 pub put_line : (word : List ℕ) (n : ℕ) {text buffer after : List ℕ} {at p : ℕ} → text ≡ line_of word (n ∷ []) → length word ≡ 2 → n < 2 ^ 32
@@ -174,12 +202,12 @@ pub put_row : (i : ℕ) (ws : List ℕ) (x : Segment) → x ≡ segment_at ws i 
 put_row i ws x e f g = put_same (ap (λ s. seg_lines (segments_in i ws) ++ seg_line s) e ∙ sym (lines_more i ws)) (put_append f g)
 
 -- Totals that are not refused are those of a valid heap.
-totals_valid : (r : Heap) (ws : List ℕ) (used free peak longest : ℕ) → totals_of (handed r ws) ≡ Ok (record { used = used; free = free; peak = peak; longest = longest }) → valid r ws ≡ true
+totals_valid : (r : Heap) (ws : List ℕ) (sums : Totals) → totals_of (handed r ws) ≡ Ok sums → valid r ws ≡ true
 unfolding totals_order
-totals_valid r ws used free peak longest e =
+totals_valid r ws sums e =
     split (valid r ws)
     (λ v. v)
-    (λ v. let e' : Err refusal.InvalidHeap ≡ Ok (record { used = used; free = free; peak = peak; longest = longest }) = rw v at e in let w : ◌≡◌ {A = ℕ} 0 1 = cc in absurd (omega arith))
+    (λ v. let e' : Err refusal.InvalidHeap ≡ Ok sums = rw v at e in let w : ◌≡◌ {A = ℕ} 0 1 = cc in absurd (omega arith))
 
 -- What comes at the end, where the heap's table is lent in the first n words.
 module _ (s : Script) (table : List ℕ) (n : ℕ) (lent : n ≡ min (4 * s.heap.capacity) (length table)) where
@@ -188,28 +216,28 @@ module _ (s : Script) (table : List ℕ) (n : ℕ) (lent : n ≡ min (4 * s.heap
   lent_words = (at_most (4 * s.heap.capacity) n table lent).0
 
   -- What is written at the end goes by the totals.
-  closing_told : (t : Result Totals Refusal) → TotalsDone s.heap (take n table) t → (bs : List ℕ) → closing (machine s table bs) ≡ closing_with (machine s table bs) t
+  closing_told : (t : Result Totals Refusal) → t ≡ totals_of (handed s.heap (take n table)) → (bs : List ℕ) → closing (machine s table bs) ≡ closing_with (machine s table bs) t
   closing_told t done bs =
-      ap (closing_with (machine s table bs)) (sym (ap (λ ws. totals_of (handed s.heap ws)) lent_words) ∙ sym done.answer)
+      ap (closing_with (machine s table bs)) (sym (ap (λ ws. totals_of (handed s.heap ws)) lent_words) ∙ sym done)
 
   -- Nothing is written where the totals are refused.
-  pub closing_none : (t : Result Totals Refusal) → TotalsDone s.heap (take n table) t → (why : Refusal) → t ≡ Err why
+  pub closing_none : (t : Result Totals Refusal) → t ≡ totals_of (handed s.heap (take n table)) → (why : Refusal) → t ≡ Err why
       → {buffer : List ℕ} {at : ℕ} (bs : List ℕ) → Put (closing (machine s table bs)) buffer at at buffer
   closing_none t done why e bs =
       put_same (sym (closing_told t done bs ∙ ap (closing_with (machine s table bs)) e)) (put_none refl)
 
-  module _ (t : Result Totals Refusal) (done : TotalsDone s.heap (take n table) t) (used free peak longest : ℕ) (e : t ≡ Ok (record { used = used; free = free; peak = peak; longest = longest })) where
+  module _ (t : Result Totals Refusal) (done : t ≡ totals_of (handed s.heap (take n table))) (sums : Totals) (e : t ≡ Ok sums) where
     -- The heap is valid otherwise, so that its rows are few, and all lent.
     pub rows_lent : (s.heap.rows ≤ 512) × (4 * s.heap.rows ≤ length (take n table))
     rows_lent =
-        let b : Bounds s.heap (take n table) (totals_valid s.heap (take n table) used free peak longest (sym done.answer ∙ e)) = bounds _ _ _ in
+        let b : Bounds s.heap (take n table) (totals_valid s.heap (take n table) sums (sym done ∙ e)) = bounds _ _ _ in
         (omega arith, omega arith)
 
     -- The rows are written then, and the totals.
     pub closing_rows : {buffer mid after : List ℕ} {at p q : ℕ} → Put (seg_lines (segments_in s.heap.rows (take n table))) buffer at p mid
-        → Put (line_of (ascii "sum") (used ∷ free ∷ peak ∷ longest ∷ [])) mid p q after → (bs : List ℕ) → Put (closing (machine s table bs)) buffer at q after
+        → Put (line_of (ascii "sum") (sums.used ∷ sums.free ∷ sums.peak ∷ sums.longest ∷ [])) mid p q after → (bs : List ℕ) → Put (closing (machine s table bs)) buffer at q after
     closing_rows f g bs =
         put_same
-        (ap (λ ws. seg_lines (segments_in s.heap.rows ws) ++ line_of (ascii "sum") (used ∷ free ∷ peak ∷ longest ∷ [])) lent_words
+        (ap (λ ws. seg_lines (segments_in s.heap.rows ws) ++ line_of (ascii "sum") (sums.used ∷ sums.free ∷ sums.peak ∷ sums.longest ∷ [])) lent_words
         ∙ sym (closing_told t done bs ∙ ap (closing_with (machine s table bs)) e))
         (put_append f g)

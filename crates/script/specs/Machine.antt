@@ -1,6 +1,6 @@
 -- What a script is carried out on, and what each command answers and leaves, for every state.
 -- Assumes nothing.
-use Rattle.std.specs.Prelude.{ℕ, ◌-◌, ◌*◌, false, not, List, [], ◌∷◌, ◌++◌, ltb, length, take, drop, set, replicate, Result, Ok, Err}
+use Rattle.std.specs.Prelude.{ℕ, ◌-◌, ◌*◌, false, not, List, [], ◌∷◌, ◌++◌, ltb, length, take, drop, set, replicate, Option, None, Some, Result, Ok, Err}
 use Rattle.model.specs.Choose.{either}
 use Rattle.model.specs.Quantities.{is_arena, is_table}
 use Rattle.model.specs.Reasons.{bad_owner, bad_quota}
@@ -17,11 +17,11 @@ use Rattle.model.specs.declared.InitRefusal.{InitRefusal}
 use Rattle.model.specs.declared.InitRefusal.TheVariants as init_refusal
 use Rattle.model.specs.declared.Totals.{Totals}
 use Rattle.heap.specs.declared.record.Heap.{Heap}
-use Rattle.script.specs.declared.Script.{Script}
-use Rattle.script.specs.declared.Command.{Command}
-use Rattle.script.specs.declared.Command.TheVariants as command
-use Rattle.script.specs.declared.Answer.{Answer}
-use Rattle.script.specs.declared.Answer.TheVariants as answer
+use Rattle.script.specs.declared.carrying_out.Script.{Script}
+use Rattle.script.specs.declared.command.Command.{Command}
+use Rattle.script.specs.declared.command.Command.TheVariants as command
+use Rattle.script.specs.declared.answer.Why.{Why}
+use Rattle.script.specs.declared.answer.Why.TheVariants as why
 
 -- A script is carried out on the quotas for the next make and the heap's record, on the words that are lent for tables, and on the bytes lent for arenas.
 pub record Machine : Type 0 where
@@ -41,7 +41,7 @@ started = record { granule_quotas = replicate 8 0; block_quotas = replicate 8 0;
 abbrev pub with_heap : Script → Heap → Script
 with_heap s r = record { granule_quotas = s.granule_quotas; block_quotas = s.block_quotas; heap = r }
 
--- A make is handed the quotas that the limit lines gave; its heaps keep document 01's form, so their base is 0, and they have no guards.
+-- A make is handed the quotas that the limit lines gave; its heaps have base 0 and no guards.
 abbrev pub plan_of : Script → Plan
 plan_of s = record { base = 0; guarded = false; granule_quotas = s.granule_quotas; block_quotas = s.block_quotas }
 
@@ -53,15 +53,15 @@ most_bytes = 65536
 abbrev pub limit_order : ℕ → Order Refusal
 limit_order o = bad_owner o ∷ []
 
--- What an allocation answers is written as its offset.
-abbrev pub placed_answer : Result ℕ Refusal → Answer
-placed_answer (Ok x) = answer.Ok x
-placed_answer (Err r) = answer.Refused r
+-- What a call on the heap answers, as the answer to a line: an allocation's offset, or the bytes that a free gives back.
+abbrev pub call_answer : Result ℕ Refusal → Result ℕ Why
+call_answer (Ok v) = Ok v
+call_answer (Err r) = Err (why.Call r)
 
--- What a free answers is written as the bytes given back.
-abbrev pub freed_answer : Result ℕ Refusal → Answer
-freed_answer (Ok k) = answer.Ok k
-freed_answer (Err r) = answer.Refused r
+-- What a make answers, as the answer to a line.
+abbrev pub make_answer : Result ℕ InitRefusal → Result ℕ Why
+make_answer (Ok v) = Ok v
+make_answer (Err r) = Err (why.Make r)
 
 -- A row is written in bytes: start, length, owner, bytes requested.
 abbrev pub seg_line : Segment → List ℕ
@@ -126,35 +126,34 @@ module _ (m : Machine) where
       (calls.arena_after_init (take b m.arena) (take (4 * r) m.table) plan ++ drop b m.arena)
 
   -- Each command answers V or why not: V is G for limit, BYTES for make, the offset for ask, the bytes returned for back.
-  abbrev pub answer_to : Command → Answer
-  answer_to (command.Limit o g b) = unless (limit_order o) (answer.Ok g) answer.Refused
-  answer_to (command.Make b r) = unless (make_order b r) (answer.Ok b) answer.NotMade
-  answer_to (command.Ask o n a) = placed_answer (calls.alloc_aligned stored bytes o n a)
-  answer_to (command.Back o x) = freed_answer (calls.free stored bytes o x)
-  answer_to command.Unreadable = answer.Unreadable
+  abbrev pub answer_to : Option Command → Result ℕ Why
+  answer_to (Some (command.Limit o g b)) = call_answer (unless (limit_order o) (Ok g) Err)
+  answer_to (Some (command.Make b r)) = make_answer (unless (make_order b r) (Ok b) Err)
+  answer_to (Some (command.Ask o n a)) = call_answer (calls.alloc_aligned stored bytes o n a)
+  answer_to (Some (command.Back o x)) = call_answer (calls.free stored bytes o x)
+  answer_to None = Err why.Unreadable
 
   -- In numbers this is what the order says: 0 and V, or the number of the first reason and 0.
-  abbrev pub numbered_to : Command → Numbered
-  numbered_to (command.Limit o g b) = numbered_by number_of (limit_order o) (g ∷ [])
-  numbered_to (command.Make b r) = numbered_by init_number_of (make_order b r) (b ∷ [])
-  numbered_to (command.Ask o n a) = calls.numbered_alloc stored bytes o n a
-  numbered_to (command.Back o x) = calls.numbered_free stored bytes o x
-  numbered_to command.Unreadable = (14, 0 ∷ [])
+  abbrev pub numbered_to : Option Command → Numbered
+  numbered_to (Some (command.Limit o g b)) = numbered_by number_of (limit_order o) (g ∷ [])
+  numbered_to (Some (command.Make b r)) = numbered_by init_number_of (make_order b r) (b ∷ [])
+  numbered_to (Some (command.Ask o n a)) = calls.numbered_alloc stored bytes o n a
+  numbered_to (Some (command.Back o x)) = calls.numbered_free stored bytes o x
+  numbered_to None = (14, 0 ∷ [])
 
   -- A command that is refused leaves all as it was: after a refused make there is the heap that there was.
-  abbrev pub after : Command → Machine
-  after (command.Limit o g b) = unless (limit_order o) (limited o g b) (λ r. m)
-  after (command.Make b r) = unless (make_order b r) (made b r) (λ r. m)
-  after (command.Ask o n a) =
+  abbrev pub after : Option Command → Machine
+  after (Some (command.Limit o g b)) = unless (limit_order o) (limited o g b) (λ r. m)
+  after (Some (command.Make b r)) = unless (make_order b r) (made b r) (λ r. m)
+  after (Some (command.Ask o n a)) =
       leaving (calls.after_alloc_aligned stored bytes o n a) (calls.arena_after_alloc_aligned stored bytes o n a ++ drop (16 * heap.granules) m.arena)
-  after (command.Back o x) =
+  after (Some (command.Back o x)) =
       leaving (calls.after_free stored bytes o x) (calls.arena_after_free stored bytes o x ++ drop (16 * heap.granules) m.arena)
-  after command.Unreadable = m
+  after None = m
 
   -- At the end come the rows in use, then `sum` with the totals.
   abbrev pub closing_with : Result Totals Refusal → List ℕ
-  closing_with (Ok (record { used = used; free = free; peak = peak; longest = longest })) =
-      seg_lines (segments_in heap.rows words) ++ line_of (ascii "sum") (used ∷ free ∷ peak ∷ longest ∷ [])
+  closing_with (Ok t) = seg_lines (segments_in heap.rows words) ++ line_of (ascii "sum") (t.used ∷ t.free ∷ t.peak ∷ t.longest ∷ [])
   closing_with (Err r) = []
 
   -- There is a heap if its totals are not refused, that is, if it is valid; after a script from its start on, exactly if some make was granted (`proofs/Laws`).

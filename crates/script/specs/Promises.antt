@@ -1,24 +1,13 @@
 -- What the functions of the crate promise for every input and every state.
 -- Assumes nothing.
-use Rattle.std.specs.Prelude.{ℕ, ◌+◌, ◌*◌, ◌≡◌, List, leb, length, take}
+use Rattle.std.specs.Prelude.{ℕ, ◌+◌, ◌*◌, ◌≡◌, List, leb, length, take, Option, None, Some}
 use Rattle.model.specs.Choose.{choose}
 use Rattle.script.specs.Text.{ended, unended, unless_empty, at_front}
-use Rattle.script.specs.Commands.{answer_numbered, answer_most}
-use Rattle.script.specs.Machine.{Machine, machine, answer_to, numbered_to, after}
+use Rattle.script.specs.Commands.{answer_most}
+use Rattle.script.specs.Machine.{Machine, machine}
 use Rattle.script.specs.Session.{answers_to, after_lines, answers_and_closing, most_held, held, pieces_with, taken_of}
-use Rattle.script.specs.declared.Script.{Script}
-use Rattle.script.specs.declared.Command.{Command}
-use Rattle.script.specs.declared.Carried.{Carried}
-use Rattle.script.specs.declared.Session.{Session}
-use Rattle.script.specs.declared.Fed.{Fed}
-use Rattle.script.specs.declared.Written.{Written}
-use Rattle.script.specs.declared.Written.TheVariants as written
-
--- One command, carried out on a script's record, words and bytes.
-pub record CommandDone (s : Script) (words bytes : List ℕ) (k : Command) (out : Carried) (words_after bytes_after : List ℕ) : Type 0 where
-  pub answer : out.answer ≡ answer_to (machine s words bytes) k
-  pub numbered : answer_numbered out.answer ≡ numbered_to (machine s words bytes) k
-  pub leaves : machine out.script words_after bytes_after ≡ after (machine s words bytes) k
+use Rattle.script.specs.declared.session.Session.{Session}
+use Rattle.script.specs.declared.session.Fed.{Fed}
 
 -- A part of the input, of which so much is taken that the answers have room in the buffer.
 module _ (s : Session) (words bytes input room : List ℕ) where
@@ -31,17 +20,17 @@ module _ (s : Session) (words bytes input room : List ℕ) where
   fed_text = answers_to (machine s.script words bytes) (ended fed_pieces)
 
   -- The answers are put at the front of the buffer, the lines are carried out, and what is begun is held.
-  pub record FeedDone (out : Fed) (words_after bytes_after room_after : List ℕ) : Type 0 where
+  pub record FeedDone (out : Fed) (s_after : Session) (words_after bytes_after room_after : List ℕ) : Type 0 where
     pub taken : out.taken ≡ taken_of input room
     pub written : out.written ≡ length fed_text
     pub buffer : room_after ≡ at_front fed_text room
-    pub leaves : machine out.session.script words_after bytes_after ≡ after_lines (machine s.script words bytes) (ended fed_pieces)
-    pub line : out.session.line ≡ at_front (take most_held (unended fed_pieces)) s.line
-    pub count : out.session.count ≡ length (take most_held (unended fed_pieces))
+    pub leaves : machine s_after.script words_after bytes_after ≡ after_lines (machine s.script words bytes) (ended fed_pieces)
+    pub line : s_after.held.line ≡ at_front (take most_held (unended fed_pieces)) s.held.line
+    pub count : s_after.held.count ≡ length (take most_held (unended fed_pieces))
 
 -- A text, put at the front of a buffer that has at least so many bytes. A shorter buffer stays as it was, and that is answered.
-pub record WriteDone (text : List ℕ) (needed : ℕ) (room : List ℕ) (out : Written) (room_after : List ℕ) : Type 0 where
-  pub written : out ≡ choose (leb needed (length room)) (written.Bytes (length text)) written.NoRoom
+pub record WriteDone (text : List ℕ) (needed : ℕ) (room : List ℕ) (out : Option ℕ) (room_after : List ℕ) : Type 0 where
+  pub written : out ≡ choose (leb needed (length room)) (Some (length text)) None
   pub buffer : room_after ≡ choose (leb needed (length room)) (at_front text room) room
 
 -- What is written at the end has at most so many bytes: an answer, 512 rows of at most 50 bytes, and the totals, at most 50 bytes too.
@@ -60,7 +49,7 @@ module _ (s : Session) (words bytes room : List ℕ) where
       choose (leb end_most (length room)) (after_lines (machine s.script words bytes) (last_lines s)) (machine s.script words bytes)
 
   -- The text is put into the buffer, and the words and bytes are as the last line leaves them.
-  pub record FinishDone (out : Written) (words_after bytes_after room_after : List ℕ) : Type 0 where
+  pub record FinishDone (out : Option ℕ) (words_after bytes_after room_after : List ℕ) : Type 0 where
     pub put : WriteDone (answers_and_closing (machine s.script words bytes) (last_lines s)) end_most room out room_after
     pub table : words_after ≡ left.table
     pub arena : bytes_after ≡ left.arena

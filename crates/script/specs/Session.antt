@@ -4,7 +4,8 @@ use Rattle.std.specs.Prelude.{ℕ, ◌/◌, min, List, [], ◌∷◌, ◌++◌, 
 use Rattle.script.specs.Text.{prefixed, pieces, lines_of}
 use Rattle.script.specs.Commands.{read_line, answer_line, answer_most}
 use Rattle.script.specs.Machine.{Machine, machine, started, answer_to, after, closing}
-use Rattle.script.specs.declared.Session.{Session}
+use Rattle.script.specs.declared.held.Held.{Held}
+use Rattle.script.specs.declared.session.Session.{Session}
 
 -- Each line is answered, in order.
 abbrev pub answers_to : Machine → List (List ℕ) → List ℕ
@@ -28,9 +29,13 @@ output table arena input = answers_and_closing (machine started table arena) (li
 abbrev pub most_held : ℕ
 most_held = 81
 
--- A session holds what has come of a line: the first bytes of its own 81.
+-- What is held are the first bytes of 81.
+abbrev pub held_bytes : Held → List ℕ
+held_bytes h = take h.count h.line
+
+-- A session holds what has come of a line.
 abbrev pub held : Session → List ℕ
-held s = take s.count s.line
+held s = held_bytes s.held
 
 -- With a part of the input these are the pieces: the first goes on with what is held, and the last has no newline yet.
 abbrev pub pieces_with : List ℕ → List ℕ → List (List ℕ)

@@ -1,6 +1,6 @@
 -- Bytes as text: the pieces between separators, and numbers in decimal digits, read and written.
 -- Assumes nothing.
-use Rattle.std.specs.Prelude.{ℕ, zero, suc, ◌+◌, ◌-◌, ◌*◌, ◌/◌, ◌%◌, Bool, true, false, List, [], ◌∷◌, ◌++◌, leb, ltb, eqb, length, drop, Option, None, Some}
+use Rattle.std.specs.Prelude.{ℕ, zero, suc, ◌+◌, ◌-◌, ◌*◌, ◌/◌, ◌%◌, Bool, List, [], ◌∷◌, ◌++◌, leb, ltb, eqb, length, drop, Option, None, Some}
 use Prim.Native.Char.{code}
 use Prim.Native.String.{String, len, char_at}
 use Rattle.model.specs.Choose.{choose, both, every}
@@ -68,15 +68,8 @@ abbrev pub is_number : List ℕ → Bool
 is_number f = both (within 1 10 (length f)) (both (every is_digit f) (leb (value_of f) 4294967295))
 
 -- The number in a field, if there is one.
-abbrev pub number_in : List ℕ → Option ℕ
+unfoldable pub number_in : List ℕ → Option ℕ
 number_in f = choose (is_number f) (Some (value_of f)) None
-
--- The same bytes in the same order.
-abbrev pub same : List ℕ → List ℕ → Bool
-same [] [] = true
-same [] (c ∷ cs) = false
-same (b ∷ bs) [] = false
-same (b ∷ bs) (c ∷ cs) = both (eqb b c) (same bs cs)
 
 -- The digits of n, the most significant first, at most k of them.
 abbrev pub digits_within : ℕ → ℕ → List ℕ

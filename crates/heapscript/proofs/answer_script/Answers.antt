@@ -7,16 +7,16 @@ use Rattle.heapscript.proofs.answer_script.Goals as goal
 pub returns-clause-ok : goal.returns-clause-ok
 returns-clause-ok g c =
     on_ok_weaker c.write_end.result
-    (λ h. AnswersScript-end _ _ _ _ _ _ _ _ _ _ _ c.start-session.ensures.0 c.start-session.ensures.2 c.in_ok-answer_input.ensures.ok h)
+    (λ h. AnswersScript-end _ _ _ _ _ _ _ _ _ _ _ c.start-session.ensures.script c.start-session.ensures.count c.in_ok-answer_input.ensures.ok h)
     c.write_end.ensures.ok
 
 pub returns-clause-err : goal.returns-clause-err
 returns-clause-err g c =
     on_err_weaker c.write_end.result
-    (λ h. StopsScript-end _ _ _ _ _ _ _ _ _ _ _ c.start-session.ensures.0 c.start-session.ensures.2 c.in_ok-answer_input.ensures.ok h)
+    (λ h. StopsScript-end _ _ _ _ _ _ _ _ _ _ _ c.start-session.ensures.script c.start-session.ensures.count c.in_ok-answer_input.ensures.ok h)
     c.write_end.ensures.err
 
 pub returns-in_err-answer_input-clause-err : goal.returns-in_err-answer_input-clause-err
 returns-in_err-answer_input-clause-err g c =
     OnErr-anyhow c.from_residual.result
-    (StopsScript-input _ _ _ _ _ _ _ c.start-session.ensures.0 c.start-session.ensures.2 c.in_err-answer_input.ensures.err)
+    (StopsScript-input _ _ _ _ _ _ _ c.start-session.ensures.script c.start-session.ensures.count c.in_err-answer_input.ensures.err)

@@ -9,11 +9,11 @@ returns g c =
     let finished : Finishes c.args.session c.args.table.now c.args.arena.now =
     record {
       room = _;
-      out = c.in-Bytes.n;
+      out = c.in-Some.n;
       words_after = c.finish.new.table;
       bytes_after = c.finish.new.arena;
       room_after = c.finish.new.out;
-      done = c.in-Bytes.ensures;
+      done = c.in-Some.ensures;
     } in
     record {
       ok = on_ok_weaker c.write_out.result (λ h. record { finished = finished; written = h }) c.write_out.ensures.ok;
