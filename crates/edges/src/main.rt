@@ -1,159 +1,149 @@
-// Document 01's "Run:" cases, in its order and under its words. Each call is printed with its answer, `ok` and the value or `no` and document 01's
-// number. What 01's rules give stands in `stdout`, beside `src/`.
+// The least and the largest that a heap accepts or serves, one step past each, and a return between two holes. Each call is printed with its answer, `ok`
+// and the value or `no` and the number of its refusal. What the rules give stands in `stdout`, beside `src/`.
 #![tactic(auto)]
 
 use heap::Heap;
 use model::Plan;
-use printing::{print_freed, print_made, print_placed, print_rows, print_value};
+use printing::{Making, Rows, Shown};
+use std::io;
 
-fn print_capacity(rows: usize) {
-    print_value(b" bytes ", rows as u64);
-    if rows == 1 {
-        io::write_all(1, b" row");
-    } else {
-        io::write_all(1, b" rows");
+/// A heap whose calls are printed with their answers. All its blocks are owner 1's, who has the largest quotas there are, so refusals 5 and 6 never apply.
+#[derive(Drop)]
+struct Stand<'a, R> {
+    rt: &'a R,
+    table: &'a mut [u32],
+    arena: &'a mut [u8],
+    heap: Heap,
+}
+
+impl<'a, R: Print> Stand<'a, R> {
+    fn init(rt: &'a R, arena: &'a mut [u8], table: &'a mut [u32]) -> io::Result<Stand<'a, R>> {
+        let bytes = arena.len();
+        let rows = table.len() / 4;
+        let noun = if rows == 1 { "row" } else { "rows" };
+        let plan = Plan {
+            base: 0,
+            guarded: false,
+            granule_quotas: [65536, 0, 0, 0, 0, 0, 0, 0],
+            block_quotas: [256, 0, 0, 0, 0, 0, 0, 0],
+        };
+        let out = heap::init(arena, table, plan);
+        let made = Making {
+            made: out.made,
+            bytes,
+        };
+        println!(rt; "init {bytes} bytes {rows} {noun}: {made}")?;
+        Ok(Stand {
+            rt,
+            table,
+            arena,
+            heap: out.heap,
+        })
+    }
+
+    fn alloc(&mut self, size: u32) -> io::Result<()> {
+        let out = heap::alloc(self.heap, self.table, &mut [0], 1, size);
+        self.heap = out.heap;
+        println!(self.rt; "alloc {size}: {}", Shown(out.placed))
+    }
+
+    fn alloc_aligned(&mut self, size: u32, align: u32) -> io::Result<()> {
+        let out = heap::alloc_aligned(self.heap, self.table, &mut [0], 1, size, align);
+        self.heap = out.heap;
+        println!(self.rt; "alloc {size} on {align}: {}", Shown(out.placed))
+    }
+
+    fn free(&mut self, offset: u32) -> io::Result<()> {
+        let out = heap::free(self.heap, self.table, self.arena, 1, offset);
+        self.heap = out.heap;
+        println!(self.rt; "free {offset}: {}", Shown(out.freed))
+    }
+
+    fn print_rows(&self) -> io::Result<()> {
+        let in_use = self.heap.rows;
+        let table = &*self.table;
+        println!(self.rt; "{}", Rows { in_use, table })
     }
 }
 
-// Owner 1 has the largest quotas there are, so 5 and 6 never apply.
-fn init(arena: &mut [u8], table: &mut [u32]) -> Heap {
-    let bytes = arena.len() as u64;
-    print_value(b"init ", bytes);
-    print_capacity(table.len() / 4);
-    let plan = Plan {
-        base: 0,
-        guarded: false,
-        granule_quotas: [65536, 0, 0, 0, 0, 0, 0, 0],
-        block_quotas: [256, 0, 0, 0, 0, 0, 0, 0],
-    };
-    let out = heap::init(arena, table, plan);
-    let made = out.made;
-    print_made(made, bytes);
-    out.heap
-}
-
-fn alloc(heap: Heap, table: &mut [u32], size: u32) -> Heap {
-    print_value(b"alloc ", size as u64);
-    let mut unread = [0u8; 1];
-    let out = heap::alloc(heap, table, &mut unread, 1, size);
-    let placed = out.placed;
-    print_placed(placed);
-    out.heap
-}
-
-fn alloc_aligned(heap: Heap, table: &mut [u32], size: u32, align: u32) -> Heap {
-    print_value(b"alloc ", size as u64);
-    print_value(b" on ", align as u64);
-    let mut unread = [0u8; 1];
-    let out = heap::alloc_aligned(heap, table, &mut unread, 1, size, align);
-    let placed = out.placed;
-    print_placed(placed);
-    out.heap
-}
-
-fn free(heap: Heap, table: &mut [u32], arena: &mut [u8], offset: u32) -> Heap {
-    print_value(b"free ", offset as u64);
-    let out = heap::free(heap, table, arena, 1, offset);
-    let freed = out.freed;
-    print_freed(freed);
-    out.heap
-}
-
 // A block at 0 comes first, so that an alignment shows in the offset.
-fn alignments() {
-    io::write_all(
-        1,
-        b"alignment 16 and 4,096 accepted, 8, 24 and 8,192 refused\n",
-    );
-    let mut table = [0u32; 32];
-    let mut arena = [0u8; 8192];
-    let mut h = init(&mut arena, &mut table);
-    h = alloc_aligned(h, &mut table, 16, 16);
-    h = alloc_aligned(h, &mut table, 16, 16);
-    h = alloc_aligned(h, &mut table, 16, 4096);
-    h = alloc_aligned(h, &mut table, 16, 8);
-    h = alloc_aligned(h, &mut table, 16, 24);
-    alloc_aligned(h, &mut table, 16, 8192);
+fn alignments(rt: &impl Print) -> io::Result<()> {
+    println!(rt; "alignment 16 and 4,096 accepted, 8, 24 and 8,192 refused")?;
+    let mut table = [0; 32];
+    let mut arena = [0; 8192];
+    let mut stand = Stand::init(rt, &mut arena, &mut table)?;
+    stand.alloc_aligned(16, 16)?;
+    stand.alloc_aligned(16, 16)?;
+    stand.alloc_aligned(16, 4096)?;
+    stand.alloc_aligned(16, 8)?;
+    stand.alloc_aligned(16, 24)?;
+    stand.alloc_aligned(16, 8192)
 }
 
 // The accepted arena serves one granule, and no more.
-fn arenas() {
-    io::write_all(1, b"\narena 16 accepted, 0 and 24 refused\n");
-    let mut table = [0u32; 4];
-    let mut least = [0u8; 16];
-    let mut none = [0u8; 0];
-    let mut uneven = [0u8; 24];
-    let mut h = init(&mut least, &mut table);
-    h = alloc(h, &mut table, 16);
-    alloc(h, &mut table, 1);
-    init(&mut none, &mut table);
-    init(&mut uneven, &mut table);
+fn arenas(rt: &impl Print) -> io::Result<()> {
+    println!(rt; "\narena 16 accepted, 0 and 24 refused")?;
+    let mut table = [0; 4];
+    let mut least = [0; 16];
+    let mut none = [0; 0];
+    let mut uneven = [0; 24];
+    let mut stand = Stand::init(rt, &mut least, &mut table)?;
+    stand.alloc(16)?;
+    stand.alloc(1)?;
+    Stand::init(rt, &mut none, &mut table)?;
+    Stand::init(rt, &mut uneven, &mut table)?;
+    Ok(())
 }
 
 // The whole arena by one block, then its last free run by a second; a byte more is refused each time.
-fn exact_fill() {
-    io::write_all(1, b"\nan ask that fills the arena exactly is granted\n");
-    let mut table = [0u32; 8];
-    let mut arena = [0u8; 128];
-    let mut h = init(&mut arena, &mut table);
-    h = alloc(h, &mut table, 129);
-    alloc(h, &mut table, 128);
-    h = init(&mut arena, &mut table);
-    h = alloc(h, &mut table, 48);
-    h = alloc(h, &mut table, 81);
-    h = alloc(h, &mut table, 80);
-    alloc(h, &mut table, 1);
+fn exact_fill(rt: &impl Print) -> io::Result<()> {
+    println!(rt; "\nan ask that fills the arena exactly is granted")?;
+    let mut table = [0; 8];
+    let mut arena = [0; 128];
+    let mut stand = Stand::init(rt, &mut arena, &mut table)?;
+    stand.alloc(129)?;
+    stand.alloc(128)?;
+    stand = Stand::init(rt, &mut arena, &mut table)?;
+    stand.alloc(48)?;
+    stand.alloc(81)?;
+    stand.alloc(80)?;
+    stand.alloc(1)
 }
 
 // Each size is asked of a new heap: 48 bytes would leave a rest, which needs a second row.
-fn one_row() {
-    io::write_all(1, b"\nwith 4 granules, 1 row and ample limits, ");
-    io::write_all(1, b"an ask for 64 bytes is granted and one for 48 is 8\n");
-    let mut table = [0u32; 4];
-    let mut arena = [0u8; 64];
-    let mut h = init(&mut arena, &mut table);
-    alloc(h, &mut table, 64);
-    h = init(&mut arena, &mut table);
-    alloc(h, &mut table, 48);
+fn one_row(rt: &impl Print) -> io::Result<()> {
+    println!(rt;
+        "\nwith 4 granules, 1 row and ample limits, an ask for 64 bytes is granted and one for 48 is 8"
+    )?;
+    let mut table = [0; 4];
+    let mut arena = [0; 64];
+    let mut stand = Stand::init(rt, &mut arena, &mut table)?;
+    stand.alloc(64)?;
+    stand = Stand::init(rt, &mut arena, &mut table)?;
+    stand.alloc(48)
 }
 
-// Three neighbours, at 16, 64 and 96, with a live block on either side.
-fn alloc_five(heap: Heap, table: &mut [u32; 32]) -> Heap {
-    let mut h = heap;
-    h = alloc(h, table, 16);
-    h = alloc(h, table, 40);
-    h = alloc(h, table, 20);
-    h = alloc(h, table, 64);
-    h = alloc(h, table, 30);
-    h
+// Three neighbours, at 16, 64 and 96, with a live block on either side. The outer two of the three come back first, then the one between the holes. The
+// free row at 192 touches none of them, and stays by itself.
+fn between_holes(rt: &impl Print) -> io::Result<()> {
+    println!(rt; "\na return between two holes leaves one row of the three")?;
+    let mut table = [0; 32];
+    let mut arena = [0; 256];
+    let mut stand = Stand::init(rt, &mut arena, &mut table)?;
+    for size in [16, 40, 20, 64, 30] {
+        stand.alloc(size)?;
+    }
+    stand.free(16)?;
+    stand.free(96)?;
+    stand.print_rows()?;
+    stand.free(64)?;
+    stand.print_rows()
 }
 
-// The outer two of the three first, then the one between the holes. The free row at 192 touches none of them, and stays by itself.
-fn free_three(heap: Heap, table: &mut [u32; 32], arena: &mut [u8; 256]) {
-    let mut h = heap;
-    h = free(h, table, arena, 16);
-    h = free(h, table, arena, 96);
-    print_rows(h.rows, table);
-    h = free(h, table, arena, 64);
-    print_rows(h.rows, table);
-}
-
-fn between_holes() {
-    io::write_all(
-        1,
-        b"\na return between two holes leaves one row of the three\n",
-    );
-    let mut table = [0u32; 32];
-    let mut arena = [0u8; 256];
-    let mut h = init(&mut arena, &mut table);
-    h = alloc_five(h, &mut table);
-    free_three(h, &mut table, &mut arena);
-}
-
-fn main() {
-    alignments();
-    arenas();
-    exact_fill();
-    one_row();
-    between_holes();
+fn main(rt: HostRuntime) -> io::Result<()> {
+    alignments(&rt)?;
+    arenas(&rt)?;
+    exact_fill(&rt)?;
+    one_row(&rt)?;
+    between_holes(&rt)
 }
