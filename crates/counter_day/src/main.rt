@@ -1,35 +1,24 @@
-// A counter's day over the drivers' layer: two checkout tasks (owners 1 and 2) and the modem (owner 3) borrow from one heap. Each call is printed with
-// its answer, `ok` and the values or `no` and the number of its refusal, and some bytes of the arena as they are found. What the rules give stands in
-// `stdout`, beside `src/`.
+//! A counter's day over the drivers' layer: two checkout tasks (owners 1 and 2) and the modem (owner 3) borrow from one heap. Each call is printed with
+//! its answer, `ok` and the values or `no` and the number of its refusal, and some bytes of the arena as they are found. What the rules give stands in
+//! `stdout`, beside `src/`.
 #![tactic(auto)]
 
-ghost use Rattle.std.specs.Prelude.{◌<◌};
+mod day;
+mod step;
 
 use heap::Heap;
-use model::{Plan, Resized};
-use printing::{Making, Shown};
-use std::{fmt, io};
+use model::{Freed, Plan, Resized};
+use printing::{Answer, Making, carry_out, write};
+use std::io;
+use step::Step;
 
-/// Who calls, by the number of its owner.
-#[derive(Drop)]
-struct Task(u32);
-
-impl fmt::Display for Task {
-    fn fmt<W: fmt::Write>(&self, f: &mut fmt::Formatter<W>) -> fmt::Result {
-        match self.0 {
-            3 => f.write_str("modem"),
-            owner => write!(f, "checkout {owner}"),
-        }
-    }
-}
-
-/// The counter's heap, whose calls are printed with their answers.
+/// The counter's heap: the record, which is lent to each call, and the table and the arena that are lent with it.
 #[derive(Drop)]
 struct Counter<'a, R> {
     rt: &'a R,
+    heap: Heap,
     table: [u32; 68],
     arena: [u8; 512],
-    heap: Heap,
 }
 
 impl<'a, R: Print> Counter<'a, R> {
@@ -44,182 +33,69 @@ impl<'a, R: Print> Counter<'a, R> {
             block_quotas: [3, 3, 2, 0, 0, 0, 0, 0],
         };
         let out = heap::init(&mut arena, &mut table, plan);
-        let made = Making {
+        let making = Making {
             made: out.made,
-            bytes: 512,
+            bytes: arena.len(),
         };
-        println!(rt; "init 512 bytes 17 rows: {made}")?;
+        println!(rt; "init 512 bytes 17 rows: {making}")?;
         Ok(Counter {
             rt,
+            heap: out.heap,
             table,
             arena,
-            heap: out.heap,
         })
     }
 
-    fn alloc(&mut self, owner: u32, size: u32) -> io::Result<()> {
-        let placed = driver::alloc(
-            &mut self.heap,
-            &mut self.table,
-            &mut self.arena,
-            owner,
-            size,
-        );
-        println!(self.rt; "{} alloc {size}: {}", Task(owner), Shown(placed))
+    fn run(&mut self, steps: &[Step]) -> io::Result<()> {
+        for &step in steps {
+            self.carry_out(step)?;
+        }
+        Ok(())
     }
 
-    fn alloc_aligned(&mut self, owner: u32, size: u32, align: u32) -> io::Result<()> {
-        let placed = driver::alloc_aligned(
-            &mut self.heap,
-            &mut self.table,
-            &mut self.arena,
-            owner,
-            size,
-            align,
-        );
-        println!(self.rt;
-            "{} alloc {size} on {align}: {}",
-            Task(owner),
-            Shown(placed)
-        )
-    }
-
-    fn free(&mut self, owner: u32, offset: u32) -> io::Result<()> {
-        let freed = driver::free(
-            &mut self.heap,
-            &mut self.table,
-            &mut self.arena,
-            owner,
-            offset,
-        );
-        println!(self.rt; "{} free {offset}: {}", Task(owner), Shown(freed))
-    }
-
-    // The bytes that a resize to size 0 gives back are printed as an offset is.
-    fn realloc(&mut self, owner: u32, offset: u32, size: u32) -> io::Result<()> {
-        let resized = driver::realloc(
-            &mut self.heap,
-            &mut self.table,
-            &mut self.arena,
-            owner,
-            offset,
-            size,
-        );
-        print!(self.rt; "{} realloc {offset} to {size}: ", Task(owner))?;
-        match resized {
-            Resized::At(value) | Resized::Freed(value) => println!(self.rt; "ok {value}"),
-            Resized::Refused(why) => println!(self.rt; "{}", Shown(why)),
+    fn carry_out(&mut self, step: Step) -> io::Result<()> {
+        match step {
+            Step::By(task, call) => {
+                let answer = carry_out(
+                    &mut self.heap,
+                    &mut self.table,
+                    &mut self.arena,
+                    task.owner(),
+                    call,
+                );
+                println!(self.rt; "{task} {call}: {}", as_returned(answer))
+            }
+            Step::Totals => {
+                let totals = Answer::Totals(driver::totals(&self.heap, &self.table));
+                println!(self.rt; "totals: {totals}")
+            }
+            Step::Write(value, at) => {
+                write(&mut self.arena, 1, value, at);
+                Ok(())
+            }
+            Step::Byte(at) => match self.arena.get(at) {
+                Some(value) => println!(self.rt; "byte {at}: {value}"),
+                None => Ok(()),
+            },
         }
     }
+}
 
-    fn block_size(&self, owner: u32, offset: u32) -> io::Result<()> {
-        let size = driver::block_size(&self.heap, &self.table, owner, offset);
-        println!(self.rt; "{} size {offset}: {}", Task(owner), Shown(size))
-    }
-
-    fn holding(&self, owner: u32) -> io::Result<()> {
-        let holding = driver::holding(&self.heap, &self.table, owner);
-        println!(self.rt; "{} holding: {}", Task(owner), Shown(holding))
-    }
-
-    fn totals(&self) -> io::Result<()> {
-        let totals = driver::totals(&self.heap, &self.table);
-        println!(self.rt; "totals: {}", Shown(totals))
-    }
-
-    fn print_byte(&self, at: usize) -> io::Result<()>
-        requires { at < 512 }
-    {
-        let value = self.arena[at];
-        println!(self.rt; "byte {at}: {value}")
-    }
-
-    // The modem's boundary leaves two granules free, and the next block that fits goes there.
-    fn morning(&mut self) -> io::Result<()> {
-        self.alloc(1, 40)?;
-        self.alloc(2, 100)?;
-        self.alloc_aligned(3, 64, 64)?;
-        self.alloc(1, 17)?;
-        self.alloc(2, 64)?;
-        self.alloc_aligned(3, 80, 24)?;
-        self.free(3, 0)
-    }
-
-    // A second free of one block is refused while its place is free, and while it is another's.
-    fn noon(&mut self) -> io::Result<()> {
-        self.free(1, 0)?;
-        self.free(1, 0)?;
-        self.alloc(2, 48)?;
-        self.free(1, 0)
-    }
-
-    // The block quota, an alignment with no place left, a hole too short, and an offset that is no multiple of 16.
-    fn evening(&mut self) -> io::Result<()> {
-        self.alloc(1, 33)?;
-        self.alloc(1, 80)?;
-        self.alloc(1, 1)?;
-        self.alloc_aligned(3, 64, 256)?;
-        self.free(3, 192)?;
-        self.alloc(3, 128)?;
-        self.free(2, 48)?;
-        self.free(1, 161)
-    }
-
-    // Each kind of bad offset has its own number: the arena's end and its last granule, a hole, and a block after its first granule.
-    fn bad_frees(&mut self) -> io::Result<()> {
-        self.free(3, 512)?;
-        self.free(3, 511)?;
-        self.free(3, 496)?;
-        self.free(1, 49)?;
-        self.free(1, 48)?;
-        self.free(1, 176)
-    }
-
-    // The same for enquiries: a byte past the end, a block's second byte, a hole, a block's second granule, and its first for its owner and for another.
-    fn sizes(&self) -> io::Result<()> {
-        self.block_size(1, 513)?;
-        self.block_size(1, 161)?;
-        self.block_size(1, 192)?;
-        self.block_size(1, 176)?;
-        self.block_size(1, 160)?;
-        self.block_size(3, 160)
-    }
-
-    // To size 0 a resize is a free. A longer block takes the run at its right, so that the next one of checkout 2 goes behind it; with no room there it
-    // goes to another place, and the byte that the modem wrote goes along. The old place is free and zero then, and a shorter block's tail is. 6 counts the
-    // new length in place of the old, and the peak never both places.
-    fn resizes(&mut self) -> io::Result<()> {
-        self.realloc(3, 384, 0)?;
-        self.alloc(3, 40)?;
-        self.realloc(3, 48, 112)?;
-        self.alloc(2, 64)?;
-        self.arena[148] = 7;
-        self.realloc(3, 48, 128)?;
-        self.print_byte(148)?;
-        self.print_byte(484)?;
-        self.realloc(3, 48, 16)?;
-        self.realloc(3, 384, 129)?;
-        self.realloc(3, 384, 40)?;
-        self.print_byte(484)?;
-        self.block_size(3, 384)
-    }
-
-    // What the three tasks hold adds up to what is used.
-    fn closing(&self) -> io::Result<()> {
-        self.holding(1)?;
-        self.holding(2)?;
-        self.holding(3)?;
-        self.totals()
+// The bytes that a resize to size 0 gives back are printed as those that a free gives back.
+fn as_returned(answer: Answer) -> Answer {
+    match answer {
+        Answer::Resized(Resized::Freed(bytes)) => Answer::Freed(Freed::Bytes(bytes)),
+        other => other,
     }
 }
 
 fn main(rt: HostRuntime) -> io::Result<()> {
     let mut counter = Counter::init(&rt)?;
-    counter.morning()?;
-    counter.noon()?;
-    counter.evening()?;
-    counter.bad_frees()?;
-    counter.sizes()?;
-    counter.resizes()?;
-    counter.closing()
+    counter.run(&day::MORNING)?;
+    counter.run(&day::NOON)?;
+    counter.run(&day::EVENING)?;
+    counter.run(&day::BAD_FREES)?;
+    counter.run(&day::SIZES)?;
+    counter.run(&day::RESIZES)?;
+    counter.run(&day::CLOSING)
 }
