@@ -1,6 +1,6 @@
 -- What the contracts of this layer come to, for a reader.
 -- Assumes nothing.
-use Rattle.std.specs.Prelude.{ℕ, List}
+use Rattle.std.specs.Prelude.{ℕ, List, Err}
 use mathlib.Core.Path.{◌≡◌, sym, ◌∙◌, ap}
 use Rattle.heap.specs.Stored.{Stored, handed}
 use Rattle.heap.specs.Promises.{AllocDone, FreeDone, ReallocDone}
@@ -8,8 +8,6 @@ use Rattle.heap.proofs.Laws.{alloc_refused, free_refused}
 use Rattle.heap.proofs.ReallocLaws.{realloc_refused}
 use Rattle.heap.specs.declared.Heap.{Heap}
 use Rattle.model.specs.declared.Refusal.{Refusal}
-use Rattle.model.specs.declared.Placed.TheVariants as placed
-use Rattle.model.specs.declared.Freed.TheVariants as freed
 use Rattle.model.specs.declared.Resized.TheVariants as resized
 
 -- What is left is what was handed in, if by the definitions it is.
@@ -20,19 +18,19 @@ as_handed h h' words words' bytes bytes' arena left same heap table bytes_left =
 
 module _ (h h' : Heap) (words words' bytes bytes' : List ℕ) (o : ℕ) (why : Refusal) where
   -- A refused allocation leaves the record where it stands as it was, and the table and the arena,
-  pub alloc_stays : (n a : ℕ) → AllocDone h words bytes o n a (record { placed = placed.Refused why; heap = h' }) words' bytes'
+  pub alloc_stays : (n a : ℕ) → AllocDone h words bytes o n a (record { answer = Err why; heap = h' }) words' bytes'
       → (h' ≡ h) × (words' ≡ words) × (bytes' ≡ bytes)
   alloc_stays n a done =
       as_handed h h' words words' bytes bytes' _ _ (alloc_refused (handed h words) bytes o n a why (sym done.answer)) done.heap done.table done.arena
 
   -- so does a refused free,
-  pub free_stays : (x : ℕ) → FreeDone h words bytes o x (record { freed = freed.Refused why; heap = h' }) words' bytes'
+  pub free_stays : (x : ℕ) → FreeDone h words bytes o x (record { answer = Err why; heap = h' }) words' bytes'
       → (h' ≡ h) × (words' ≡ words) × (bytes' ≡ bytes)
   free_stays x done =
       as_handed h h' words words' bytes bytes' _ _ (free_refused (handed h words) bytes o x why (sym done.answer)) done.heap done.table done.arena
 
   -- and a refused resize.
-  pub realloc_stays : (x n : ℕ) → ReallocDone h words bytes o x n (record { resized = resized.Refused why; heap = h' }) words' bytes'
+  pub realloc_stays : (x n : ℕ) → ReallocDone h words bytes o x n (record { answer = Err why; heap = h' }) words' bytes'
       → (h' ≡ h) × (words' ≡ words) × (bytes' ≡ bytes)
   realloc_stays x n done =
       as_handed h h' words words' bytes bytes' _ _ (realloc_refused (handed h words) bytes o x n why (sym done.answer)) done.heap done.table done.arena

@@ -1,5 +1,6 @@
 -- What a base comes to over every list of calls, for a reader: the address of each block that is granted, how little of the base the answers depend on, and bases at which they differ.
 -- Assumes nothing.
+use Rattle.std.specs.Prelude.{Ok}
 use mathlib.Core.Path.{◌≡◌, refl, sym, ap}
 use mathlib.Core.List.{List, [], ◌∷◌}
 use Prim.Native.Nat.{ℕ, ◌+◌, ◌*◌, ◌%◌, ◌≤◌}
@@ -24,13 +25,11 @@ use Rattle.guarantee.specs.Cases.{arena, plan}
 use Rattle.guarantee.proofs.Performed.{performed_guaranteed}
 use Rattle.heap.specs.declared.Initialized.{Initialized}
 use Rattle.model.specs.declared.Plan.{Plan}
-use Rattle.model.specs.declared.Made.TheVariants as made
-use Rattle.model.specs.declared.Placed.TheVariants as placed
 
 -- Whatever the functions performed since a making that is not refused: an allocation that is granted x has its address, the plan's base plus x, on the boundary asked (16 if it names none), and its block, its guard included, ends at 4,294,967,296 at most.
-pub granted_addresses : (arena words : List ℕ) (p : Plan) (out : Initialized) (arena_left words_left : List ℕ) → InitDone arena words p out arena_left words_left → out.made ≡ made.Done
+pub granted_addresses : (arena words : List ℕ) (p : Plan) (out : Initialized) (arena_left words_left : List ℕ) → InitDone arena words p out arena_left words_left → out.answer ≡ Ok tt
     → (es : List Entry) (t : Stored) → Performed (handed out.heap words_left) es t
-    → (bytes : List ℕ) (o n a x : ℕ) (u : Stored) → Promised t (alloc_aligned bytes o n a) (placed.At x) u
+    → (bytes : List ℕ) (o n a x : ℕ) (u : Stored) → Promised t (alloc_aligned bytes o n a) (Ok x) u
     → ((p.base + x) % a ≡ 0) × (p.base + x + 16 * needed (init_config arena words p) n ≤ 4294967296)
 granted_addresses arena words p out arena_left words_left d done es t run bytes o n a x u f =
     let st : t ≡ store (init_config arena words p) (state_after (init_config arena words p) (calls_of es)) = (performed_guaranteed arena words p out arena_left words_left d done es t run).stored in
@@ -83,7 +82,7 @@ module _ (s : Stored) (b : ℕ) (k : Alike s b) (ks : List Call) where
   stored_alike = same_after execute execute (rebased b) (λ (t : Stored). Alike t b) (keep b) (λ t x k. sym (answers b t x k)) (leaves b) s ks k
 
 -- From two makings on that differ in the base alone and are not refused, where the bases have the same remainder by 4,096, every list of calls
-module _ (arena words : List ℕ) (p : Plan) (b : ℕ) (done : init arena words p ≡ made.Done) (too : init arena words (plan_at b p) ≡ made.Done) (e : p.base % 4096 ≡ b % 4096) (ks : List Call) where
+module _ (arena words : List ℕ) (p : Plan) (b : ℕ) (done : init arena words p ≡ Ok tt) (too : init arena words (plan_at b p) ≡ Ok tt) (e : p.base % 4096 ≡ b % 4096) (ks : List Call) where
   -- answers the same
   pub made_history : history execute (after_init arena words p) ks ≡ history execute (after_init arena words (plan_at b p)) ks
   made_history = rw (init_alike arena words p b done too) (history_alike (after_init arena words p) b (made_alike arena words p b done too e) ks)
@@ -93,11 +92,11 @@ module _ (arena words : List ℕ) (p : Plan) (b : ℕ) (done : init arena words 
   made_stored = rw (init_alike arena words p b done too) (stored_alike (after_init arena words p) b (made_alike arena words p b done too e) ks)
 
 -- So with a base that is a multiple of 4,096 every list of calls answers as with base 0, and leaves the same but for the base.
-pub base_0 : (arena words : List ℕ) (p : Plan) → init arena words p ≡ made.Done → p.base % 4096 ≡ 0 → (ks : List Call)
+pub base_0 : (arena words : List ℕ) (p : Plan) → init arena words p ≡ Ok tt → p.base % 4096 ≡ 0 → (ks : List Call)
     → (history execute (after_init arena words p) ks ≡ history execute (after_init arena words (plan_at 0 p)) ks)
     × (stored_after (after_init arena words (plan_at 0 p)) ks ≡ rebased 0 (stored_after (after_init arena words p) ks))
 base_0 arena words p done e ks =
-    let too : init arena words (plan_at 0 p) ≡ made.Done = (init_0 arena words p done).0 in
+    let too : init arena words (plan_at 0 p) ≡ Ok tt = (init_0 arena words p done).0 in
     (made_history arena words p 0 done too e ks, made_stored arena words p 0 done too e ks)
 
 -- A base, a boundary, and what is answered at that base to a first request for 16 bytes on that boundary.

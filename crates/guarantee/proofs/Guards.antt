@@ -3,7 +3,7 @@
 use mathlib.Core.Path.{◌≡◌, refl, sym, ap, ◌∙◌, subst}
 use mathlib.Core.Bool.{Bool, true, false}
 use mathlib.Core.List.{List, [], ◌∷◌}
-use mathlib.Core.Option.{some}
+use Rattle.std.specs.Prelude.{Some, Ok, Err}
 use Prim.Native.Nat.{ℕ, ◌+◌, ◌≤◌, ◌<◌}
 use native.Mathlib.Omega.{arith}
 use lib.Dec.{leb, ltb, eqb}
@@ -16,7 +16,7 @@ use Rattle.model.specs.Orders.{first_reason, alloc_order, free_order}
 use Rattle.model.specs.Rules as rules
 use Rattle.model.specs.Rules.{init_config}
 use Rattle.model.specs.Run.{after, history}
-use Rattle.model.specs.Numbers.{Numbered, placed_numbered, freed_numbered, resized_numbered}
+use Rattle.model.specs.Numbers.{Numbered, value_numbered, resized_numbered}
 use Rattle.model.proofs.Choosing.{split, split_option, parts, clash, both_true, first_some}
 use Rattle.model.proofs.Ordered.{Ordered, long}
 use Rattle.model.proofs.Offsets.{Begins, begins}
@@ -38,18 +38,16 @@ use Rattle.guarantee.proofs.Performed.{performed_guaranteed}
 use Rattle.heap.specs.declared.Initialized.{Initialized}
 use Rattle.model.specs.declared.Segment.{Segment}
 use Rattle.model.specs.declared.Plan.{Plan}
-use Rattle.model.specs.declared.Made.TheVariants as made
 use Rattle.model.specs.declared.Refusal.TheVariants as refusal
-use Rattle.model.specs.declared.Freed.TheVariants as freed
 use Rattle.model.specs.declared.Resized.TheVariants as resized
 
 -- the block at x, if it is o's and a test holds of it, is among o's blocks one of which the test holds
-owned_first : (p : Segment → Bool) (o x : ℕ) (bs : List Segment) (b : Segment) → block_at x bs ≡ some b → b.owner ≡ o → p b ≡ true
+owned_first : (p : Segment → Bool) (o x : ℕ) (bs : List Segment) (b : Segment) → block_at x bs ≡ Some b → b.owner ≡ o → p b ≡ true
     → is_none (first_of p (owned_by o bs)) ≡ false
 owned_first p o x [] b e mine t = let z : ◌≡◌ {A = ℕ} 0 1 = cc in absurd (omega arith)
 owned_first p o x (a ∷ bs) b e mine t =
     split (eqb (offset a) x)
-    (λ q. let e' : some a ≡ some b = rw q at e in
+    (λ q. let e' : Some a ≡ Some b = rw q at e in
     let z : a ≡ b = cc in
     let u : p a ≡ true = subst (λ (d : Segment). p d ≡ true) (sym z) t in
     let w : a.owner ≡ o = ap (λ (d : Segment). d.owner) z ∙ mine in
@@ -58,22 +56,22 @@ owned_first p o x (a ∷ bs) b e mine t =
     split (eqb a.owner o) (λ w. rw w (split (p a) (λ u. rw u) (λ u. rw u r))) (λ w. rw w r))
 
 -- the first of those picked is the first of which both tests hold
-first_only : (p q : Segment → Bool) (bs : List Segment) (b : Segment) → first_of q (only p bs) ≡ some b → first_of (λ (d : Segment). both (p d) (q d)) bs ≡ some b
+first_only : (p q : Segment → Bool) (bs : List Segment) (b : Segment) → first_of q (only p bs) ≡ Some b → first_of (λ (d : Segment). both (p d) (q d)) bs ≡ Some b
 first_only p q [] b e = e
 first_only p q (a ∷ bs) b e =
     split (p a)
-    (λ u. let e' : first_of q (a ∷ only p bs) ≡ some b = rw u at e in split (q a) (λ w. rw (u, w) (rw w at e')) (λ w. rw (u, w) (first_only p q bs b (rw w at e'))))
+    (λ u. let e' : first_of q (a ∷ only p bs) ≡ Some b = rw u at e in split (q a) (λ w. rw (u, w) (rw w at e')) (λ w. rw (u, w) (first_only p q bs b (rw w at e'))))
     (λ u. rw u (first_only p q bs b (rw u at e)))
 
 -- a live block is at its offset
-first_at : (c : Config) (p : Segment → Bool) (s : ℕ) (bs : List Segment) (b : Segment) → Ordered c s bs → first_of p bs ≡ some b → block_at (offset b) bs ≡ some b
+first_at : (c : Config) (p : Segment → Bool) (s : ℕ) (bs : List Segment) (b : Segment) → Ordered c s bs → first_of p bs ≡ Some b → block_at (offset b) bs ≡ Some b
 first_at c p s [] b o e = let z : ◌≡◌ {A = ℕ} 0 1 = cc in absurd (omega arith)
 first_at c p s (a ∷ bs) b o e =
     split (p a)
-    (λ u. let e' : some a ≡ some b = rw u at e in
+    (λ u. let e' : Some a ≡ Some b = rw u at e in
     let z : a ≡ b = cc in
     rw (eq-eqb (offset a) (offset b) (ap offset z)) e')
-    (λ u. let r : block_at (offset b) bs ≡ some b = first_at c p (a.start + a.length) bs b o.2 (rw u at e) in
+    (λ u. let r : block_at (offset b) bs ≡ Some b = first_at c p (a.start + a.length) bs b o.2 (rw u at e) in
     let f : Begins c (a.start + a.length) (offset b) bs b = begins c (a.start + a.length) (offset b) bs b o.2 r in
     rw (ne_eqb (offset a) (offset b) (λ z. absurd (omega (arith, f.from, long c a o.1)))) r)
 
@@ -114,7 +112,7 @@ module _ (c : Config) where
   other_alloc h arena o n a q g = rw (lt-ltb 0 c.guards g, q)
 
   -- a free
-  other_free : (h : State) (arena : List ℕ) (o x : ℕ) → has_recorded_length c arena ≡ false → first_reason (free_order true c h arena o x) ≡ some refusal.ArenaLength
+  other_free : (h : State) (arena : List ℕ) (o x : ℕ) → has_recorded_length c arena ≡ false → first_reason (free_order true c h arena o x) ≡ Some refusal.ArenaLength
   unfolding free_order
   other_free h arena o x q = rw q
 
@@ -177,7 +175,7 @@ module _ (c : Config) where
       )
 
 -- After a making that is not refused, and a list of calls:
-module _ (arena words : List ℕ) (p : Plan) (done : calls.init arena words p ≡ made.Done) (ks : List Call) where
+module _ (arena words : List ℕ) (p : Plan) (done : calls.init arena words p ≡ Ok tt) (ks : List Call) where
   abbrev c : Config
   c = init_config arena words p
 
@@ -219,13 +217,13 @@ module _ (arena words : List ℕ) (p : Plan) (done : calls.init arena words p �
         differs = d;
       } in
       let st : stored_after (calls.after_init arena words p) ks ≡ store c h = claim.stored in
-      let told : (rules.free true c h bytes o x ≡ freed.Refused refusal.BrokenGuard) × (rules.after_free true c h bytes o x ≡ h) × (rules.arena_after_free true c h bytes o x ≡ bytes) =
+      let told : (rules.free true c h bytes o x ≡ Err refusal.BrokenGuard) × (rules.after_free true c h bytes o x ≡ h) × (rules.arena_after_free true c h bytes o x ≡ bytes) =
       free_told true c h bytes o x k f in
-      let told' : (rules.realloc true c h bytes o x n ≡ resized.Refused refusal.BrokenGuard) × (rules.after_realloc true c h bytes o x n ≡ h) × (rules.arena_after_realloc true c h bytes o x n ≡ bytes) =
+      let told' : (rules.realloc true c h bytes o x n ≡ Err refusal.BrokenGuard) × (rules.after_realloc true c h bytes o x n ≡ h) × (rules.arena_after_realloc true c h bytes o x n ≡ bytes) =
       realloc_told true c h bytes o x k f n in
       record {
         valid = claim.valid;
-        free = ap (λ (s : Stored). freed_numbered (calls.free s bytes o x)) st ∙ ap freed_numbered (answers_same c h k ranged (free bytes o x) ∙ told.0);
+        free = ap (λ (s : Stored). value_numbered (calls.free s bytes o x)) st ∙ ap value_numbered (answers_same c h k ranged (free bytes o x) ∙ told.0);
         free_leaves = ap (λ (s : Stored). calls.after_free s bytes o x) st ∙ leaves_same c h k ranged (free bytes o x) ∙ ap (store c) told.1 ∙ sym st;
         free_bytes = ap (λ (s : Stored). calls.arena_after_free s bytes o x) st ∙ same c h k ranged (λ v s. rules.arena_after_free v c s bytes o x) ∙ told.2;
         realloc = ap (λ (s : Stored). resized_numbered (calls.realloc s bytes o x n)) st ∙ ap resized_numbered (answers_same c h k ranged (realloc bytes o x n) ∙ told'.0);
@@ -238,9 +236,9 @@ pub guards_hold : GuardsHold
 guards_hold = record { own = own_guards; requested = requested_alone; broken = broken_told }
 
 -- Of a list as the functions perform it, after a making that leaves some arena, of each of which nothing is said but its promise:
-module _ (arena words : List ℕ) (p : Plan) (out : Initialized) (arena_left words_left : List ℕ) (d : InitDone arena words p out arena_left words_left) (done : out.made ≡ made.Done)
+module _ (arena words : List ℕ) (p : Plan) (out : Initialized) (arena_left words_left : List ℕ) (d : InitDone arena words p out arena_left words_left) (done : out.answer ≡ Ok tt)
     (es : List Entry) (t : Stored) (run : Performed (handed out.heap words_left) es t) where
-  made_done : calls.init arena words p ≡ made.Done
+  made_done : calls.init arena words p ≡ Ok tt
   made_done = sym d.answer ∙ done
 
   -- an answer is none of 19 by the rules, so none of the functions
@@ -283,8 +281,8 @@ numbers (e ∷ es) = numbered e.0 e.1 ∷ numbers es
 -- by the rules, in a heap without guards
 module _ (c : Config) (z : c.guards ≡ 0) where
   same_number : (h : State) (x : Call) → numbered x (by_rules c h x).0 ≡ numbered (unlent x) (by_rules c h (unlent x)).0
-  same_number h (alloc arena o n) = ap placed_numbered (alloc_blind c z true h arena [] o n 16)
-  same_number h (alloc_aligned arena o n a) = ap placed_numbered (alloc_blind c z true h arena [] o n a)
+  same_number h (alloc arena o n) = ap value_numbered (alloc_blind c z true h arena [] o n 16)
+  same_number h (alloc_aligned arena o n a) = ap value_numbered (alloc_blind c z true h arena [] o n a)
   same_number h (free arena o x) = refl
   same_number h (realloc arena o x n) = refl
   same_number h (block_size o x) = refl
@@ -311,7 +309,7 @@ module _ (c : Config) (z : c.guards ≡ 0) where
   same_states h (x ∷ ks) = same_states (by_rules c h x).1 ks ∙ ap (λ (s : State). after (by_rules c) s (all_unlent ks)) (same_state h x)
 
 -- In a heap without guards every list of calls answers and leaves the same if its allocations are handed no byte of the arena: nothing depends on what they find there, nor on how much.
-pub without_guards : (arena words : List ℕ) (p : Plan) → calls.init arena words p ≡ made.Done → p.guarded ≡ false → (ks : List Call)
+pub without_guards : (arena words : List ℕ) (p : Plan) → calls.init arena words p ≡ Ok tt → p.guarded ≡ false → (ks : List Call)
     → (numbers (history execute (calls.after_init arena words p) ks) ≡ numbers (history execute (calls.after_init arena words p) (all_unlent ks)))
     × (stored_after (calls.after_init arena words p) ks ≡ stored_after (calls.after_init arena words p) (all_unlent ks))
 without_guards arena words p done e ks =

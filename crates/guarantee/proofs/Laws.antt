@@ -1,5 +1,6 @@
 -- What holds of the live blocks after every list of calls, for a reader: no two tasks are lent the same bytes.
 -- Assumes nothing.
+use Rattle.std.specs.Prelude.{Ok}
 use mathlib.Core.Path.{◌≡◌}
 use mathlib.Core.Bool.{true}
 use mathlib.Core.List.{List, Memᴰ}
@@ -17,10 +18,9 @@ use Rattle.guarantee.specs.Guarantee.{state_after}
 use Rattle.guarantee.proofs.Guarantee.{kept_after}
 use Rattle.model.specs.declared.Segment.{Segment}
 use Rattle.model.specs.declared.Plan.{Plan}
-use Rattle.model.specs.declared.Made.TheVariants as made
 
 -- Of the blocks that are live after any list of calls from a making that is not refused.
-module _ (arena words : List ℕ) (p : Plan) (done : init arena words p ≡ made.Done) (ks : List Call) where
+module _ (arena words : List ℕ) (p : Plan) (done : init arena words p ≡ Ok tt) (ks : List Call) where
   abbrev live : List Segment
   live = (state_after (init_config arena words p) ks).blocks
 

@@ -1,5 +1,6 @@
 -- Resizes on the heap of P5 to P13, each with its figures: used is granted minus returned, and the peak counts what is live after a call.
 -- Assumes nothing.
+use Rattle.std.specs.Prelude.{Err}
 use mathlib.Core.Path.{◌≡◌, refl}
 use mathlib.Core.List.{List, [], ◌∷◌, ◌++◌}
 use Prim.Native.Nat.{ℕ}
@@ -20,7 +21,6 @@ use Rattle.guarantee.specs.Cases.{arena, plan, small}
 use Rattle.guarantee.proofs.Guarantee.{guarantee}
 use Rattle.guarantee.proofs.SecondFree.{resized_gets_17}
 use Rattle.model.specs.declared.Refusal.TheVariants as refusal
-use Rattle.model.specs.declared.Freed.TheVariants as freed
 
 -- A call's line: its answer, the granules that it is granted and returns, and used and peak after it.
 abbrev Line : Type 0
@@ -73,11 +73,11 @@ unfolding init_order
 used_3 = omega (arith, (guarantee arena (replicate 32 0) plan refl (lent ++ resizes)).used, granted_10, returned_7)
 
 -- A free of the old place of the moved block gets 17,
-pub moved_17 : calls.free (calls.after_realloc (stored_after small lent) arena 1 0 48) arena 1 0 ≡ freed.Refused refusal.FreeMemory
+pub moved_17 : calls.free (calls.after_realloc (stored_after small lent) arena 1 0 48) arena 1 0 ≡ Err refusal.FreeMemory
 unfolding valid alloc_order free_order realloc_order init_order
 moved_17 = (resized_gets_17 arena (replicate 32 0) plan refl lent arena 1 0 48 32 refl [] _ refl 0 (omega arith) (omega arith) refl refl refl arena 1 refl refl).0
 
 -- and so does the tail of the shortened one.
-pub shortened_17 : calls.free (calls.after_realloc (stored_after small (lent ++ (realloc arena 1 0 48 ∷ []))) arena 1 32 17) arena 1 64 ≡ freed.Refused refusal.FreeMemory
+pub shortened_17 : calls.free (calls.after_realloc (stored_after small (lent ++ (realloc arena 1 0 48 ∷ []))) arena 1 32 17) arena 1 64 ≡ Err refusal.FreeMemory
 unfolding valid alloc_order free_order realloc_order init_order
 shortened_17 = (resized_gets_17 arena (replicate 32 0) plan refl (lent ++ (realloc arena 1 0 48 ∷ [])) arena 1 32 17 32 refl [] _ refl 64 (omega arith) (omega arith) refl refl refl arena 1 refl refl).0

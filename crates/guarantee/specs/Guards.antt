@@ -1,7 +1,6 @@
 -- What a task may lean on of guards, after every list of calls: one that nobody writes to is never found broken, and one that is broken is told.
 -- Assumes nothing.
-use Rattle.std.specs.Prelude.{ℕ, ◌+◌, ◌≡◌, Bool, true, not, List, [], ◌∷◌, leb, ltb, get_or}
-use Rattle.std.proofs.Math.Option.{some}
+use Rattle.std.specs.Prelude.{ℕ, ◌+◌, ◌≡◌, Bool, true, not, List, [], ◌∷◌, leb, ltb, get_or, Some, Ok}
 use Rattle.model.specs.Choose.{choose, both, first_of, is_none}
 use Rattle.model.specs.Quantities.{Config}
 use Rattle.model.specs.Allocation.{State, fresh, offset, block_at, owned_by}
@@ -14,7 +13,6 @@ use Rattle.guarantee.specs.Lists.{Call, alloc, alloc_aligned, free, realloc, blo
 use Rattle.guarantee.specs.Guarantee.{state_after, stored_after}
 use Rattle.model.specs.declared.Segment.{Segment}
 use Rattle.model.specs.declared.Plan.{Plan}
-use Rattle.model.specs.declared.Made.TheVariants as made
 
 -- These bytes, if a call is handed an arena of the recorded length; one of another length is not the heap's, whose arena is still what was left.
 abbrev pub if_recorded : Config → List ℕ → List ℕ → List ℕ → List ℕ
@@ -113,12 +111,12 @@ module _ (arena words : List ℕ) (p : Plan) (ks : List Call) where
   abbrev pub BrokenIsTold : Type 0
   BrokenIsTold =
       (bytes : List ℕ) → has_recorded_length config bytes ≡ true
-      → (x : ℕ) (b : Segment) → block_at x (state_after config ks).blocks ≡ some b
+      → (x : ℕ) (b : Segment) → block_at x (state_after config ks).blocks ≡ Some b
       → (i : ℕ) → in_guard config i b ≡ true → (get_or bytes i 0 ≡ 0x77 → ⊥)
       → (n : ℕ) → BrokenTold bytes b.owner x n
 
 -- The three hold of every making that is not refused, and of every list after it.
 pub record GuardsHold : Type 0 where
-  pub own : (arena words : List ℕ) (p : Plan) → calls.init arena words p ≡ made.Done → (ks : List Call) → OwnGuardsHold arena words p ks
-  pub requested : (arena words : List ℕ) (p : Plan) → calls.init arena words p ≡ made.Done → (ks : List Call) → RequestedAlone arena words p ks
-  pub broken : (arena words : List ℕ) (p : Plan) → calls.init arena words p ≡ made.Done → (ks : List Call) → BrokenIsTold arena words p ks
+  pub own : (arena words : List ℕ) (p : Plan) → calls.init arena words p ≡ Ok tt → (ks : List Call) → OwnGuardsHold arena words p ks
+  pub requested : (arena words : List ℕ) (p : Plan) → calls.init arena words p ≡ Ok tt → (ks : List Call) → RequestedAlone arena words p ks
+  pub broken : (arena words : List ℕ) (p : Plan) → calls.init arena words p ≡ Ok tt → (ks : List Call) → BrokenIsTold arena words p ks

@@ -3,7 +3,7 @@
 use mathlib.Core.Path.{◌≡◌, sym, ◌∙◌}
 use mathlib.Core.Bool.{true, false}
 use mathlib.Core.List.{List}
-use mathlib.Core.Option.{none, some}
+use Rattle.std.specs.Prelude.{None, Some, Ok, Err}
 use Prim.Native.Nat.{ℕ, ◌+◌, ◌-◌, ◌*◌, ◌≤◌, ◌<◌}
 use native.Mathlib.Omega.{arith}
 use lib.Dec.{leb, ltb}
@@ -25,8 +25,6 @@ use Rattle.heap.specs.Promises.{TotalsDone, HoldingDone}
 use Rattle.heap.proofs.Conditions.{Conditions, valid_conditions}
 use Rattle.heap.proofs.Changing.{Bounds, bounds}
 use Rattle.model.specs.declared.Refusal.TheVariants as refusal
-use Rattle.model.specs.declared.Totals.TheVariants as totals
-use Rattle.model.specs.declared.Holding.TheVariants as holding
 use Rattle.segments.specs.declared.Census.{Census}
 use Rattle.heap.specs.declared.Heap.{Heap}
 
@@ -60,11 +58,11 @@ module _ (r : Heap) (ws : List ℕ) (k : Census) (e : Examined r ws k) where
 
   -- The totals and an owner's enquiry get 1 then.
   module _ (bad : k.ok ≡ false) where
-    pub totals_invalid : TotalsDone r ws (totals.Refused refusal.InvalidHeap)
+    pub totals_invalid : TotalsDone r ws (Err refusal.InvalidHeap)
     unfolding totals_order
     totals_invalid = record { answer = rw (examined_invalid bad); numbered = rw (examined_invalid bad) }
 
-    pub holding_invalid : (o : ℕ) → HoldingDone r ws o (holding.Refused refusal.InvalidHeap)
+    pub holding_invalid : (o : ℕ) → HoldingDone r ws o (Err refusal.InvalidHeap)
     unfolding holding_order
     holding_invalid o = record { answer = rw (examined_invalid bad); numbered = rw (examined_invalid bad) }
 
@@ -87,7 +85,7 @@ module _ (r : Heap) (ws : List ℕ) (k : Census) (e : Examined r ws k) where
 
     -- The totals are the record's figures and the longest free run counted.
     pub totals_told : (used free peak longest : ℕ) → used ≡ 16 * r.used → free ≡ 16 * (r.granules - r.used) → peak ≡ 16 * r.peak → longest ≡ 16 * k.longest
-        → TotalsDone r ws (totals.Bytes used free peak longest)
+        → TotalsDone r ws (Ok (record { used = used; free = free; peak = peak; longest = longest }))
     unfolding totals_order
     totals_told used free peak longest u f p l =
         record {
@@ -96,7 +94,7 @@ module _ (r : Heap) (ws : List ℕ) (k : Census) (e : Examined r ws k) where
         }
 
     -- A number that is no owner's gets 2.
-    pub holding_refused : (o : ℕ) → is_owner o ≡ false → HoldingDone r ws o (holding.Refused refusal.BadOwner)
+    pub holding_refused : (o : ℕ) → is_owner o ≡ false → HoldingDone r ws o (Err refusal.BadOwner)
     unfolding holding_order
     holding_refused o w = record { answer = rw (examined_valid, w); numbered = rw (examined_valid, w) }
 
@@ -109,7 +107,7 @@ module _ (r : Heap) (ws : List ℕ) (k : Census) (e : Examined r ws k) where
       granules_counted = counted.held good o (owner_least o w) (owner_most o w)
 
       -- What an owner holds is its figures.
-      pub holding_told : (blocks bytes : ℕ) → blocks ≡ get_or k.blocks (o - 1) 0 → bytes ≡ 16 * get_or k.held (o - 1) 0 → HoldingDone r ws o (holding.Of blocks bytes)
+      pub holding_told : (blocks bytes : ℕ) → blocks ≡ get_or k.blocks (o - 1) 0 → bytes ≡ 16 * get_or k.held (o - 1) 0 → HoldingDone r ws o (Ok (record { blocks = blocks; bytes = bytes }))
       unfolding holding_order
       holding_told blocks bytes b h =
           record { answer = rw (b, h, examined_valid, w, blocks_counted, granules_counted); numbered = rw (b, h, examined_valid, w, blocks_counted, granules_counted) }
@@ -117,8 +115,8 @@ module _ (r : Heap) (ws : List ℕ) (k : Census) (e : Examined r ws k) where
       module _ (n : ℕ) where
         -- 5 and 6 of a request by an owner are told by its quotas and its figures.
         quotas_told : first_reason (quota_order (config_of r) (state_in r ws) o n)
-            ≡ choose (leb (get_or r.block_quotas (o - 1) 0) (get_or k.blocks (o - 1) 0)) (some refusal.BlockQuota)
-            (choose (ltb (get_or r.granule_quotas (o - 1) 0) (get_or k.held (o - 1) 0 + needed (config_of r) n)) (some refusal.GranuleQuota) none)
+            ≡ choose (leb (get_or r.block_quotas (o - 1) 0) (get_or k.blocks (o - 1) 0)) (Some refusal.BlockQuota)
+            (choose (ltb (get_or r.granule_quotas (o - 1) 0) (get_or k.held (o - 1) 0 + needed (config_of r) n)) (Some refusal.GranuleQuota) None)
         quotas_told =
             rw (
               quota_at r.block_quotas o (owner_least o w),
@@ -130,16 +128,16 @@ module _ (r : Heap) (ws : List ℕ) (k : Census) (e : Examined r ws k) where
 
         -- It already has as many blocks as its quota,
         pub blocks_reached : get_or r.block_quotas (o - 1) 0 ≤ get_or k.blocks (o - 1) 0
-            → some refusal.BlockQuota ≡ first_reason (quota_order (config_of r) (state_in r ws) o n)
+            → Some refusal.BlockQuota ≡ first_reason (quota_order (config_of r) (state_in r ws) o n)
         blocks_reached h = sym (rw (quotas_told, le-leb _ _ h))
 
         module _ (few : get_or k.blocks (o - 1) 0 < get_or r.block_quotas (o - 1) 0) where
           -- or the granules are too many,
           pub granules_exceed : get_or r.granule_quotas (o - 1) 0 < get_or k.held (o - 1) 0 + needed (config_of r) n
-              → some refusal.GranuleQuota ≡ first_reason (quota_order (config_of r) (state_in r ws) o n)
+              → Some refusal.GranuleQuota ≡ first_reason (quota_order (config_of r) (state_in r ws) o n)
           granules_exceed h = sym (rw (quotas_told, lt-leb _ _ few, lt-ltb _ _ h))
 
           -- or it is within limits.
           pub within_limits : get_or k.held (o - 1) 0 + needed (config_of r) n ≤ get_or r.granule_quotas (o - 1) 0
-              → none ≡ first_reason (quota_order (config_of r) (state_in r ws) o n)
+              → None ≡ first_reason (quota_order (config_of r) (state_in r ws) o n)
           within_limits h = sym (rw (quotas_told, lt-leb _ _ few, le-ltb _ _ h))

@@ -1,5 +1,6 @@
 -- What a base comes to, for one who calls the heap: the address of the block that is granted, said by the promises alone, and how little of the base the calls depend on, for every record, table and arena.
 -- Assumes nothing.
+use Rattle.std.specs.Prelude.{Ok, Err}
 use mathlib.Core.Path.{◌≡◌, refl, sym, ap, ◌∙◌}
 use mathlib.Core.Bool.{Bool, true}
 use mathlib.Core.List.{List}
@@ -28,16 +29,14 @@ use Rattle.heap.proofs.ValidStored.{valid_range}
 use Rattle.heap.proofs.Making.{none_applies, init_leaves, init_range}
 use Rattle.model.specs.declared.Plan.{Plan}
 use Rattle.model.specs.declared.Refusal.{Refusal}
-use Rattle.model.specs.declared.Made.TheVariants as made
-use Rattle.model.specs.declared.Placed.TheVariants as placed
 use Rattle.model.specs.declared.Resized.TheVariants as resized
 use Rattle.heap.specs.declared.Heap.{Heap}
-use Rattle.heap.specs.declared.Allocated.{Allocated}
-use Rattle.heap.specs.declared.Reallocated.{Reallocated}
+use Rattle.model.specs.declared.Resized.{Resized}
+use Rattle.heap.specs.declared.Outcome.{Outcome}
 
 -- Where the function of an allocation keeps its promise and answers the offset x:
-module _ (r : Heap) (ws arena : List ℕ) (o n a : ℕ) (out : Allocated) (words_after arena_after : List ℕ) (d : AllocDone r ws arena o n a out words_after arena_after)
-    (x : ℕ) (e : out.placed ≡ placed.At x) where
+module _ (r : Heap) (ws arena : List ℕ) (o n a : ℕ) (out : Outcome ℕ) (words_after arena_after : List ℕ) (d : AllocDone r ws arena o n a out words_after arena_after)
+    (x : ℕ) (e : out.answer ≡ Ok x) where
   -- the block's address, the base in the record plus x, is on the boundary asked,
   pub granted_address : (r.base + x) % a ≡ 0
   granted_address = model.alloc_address (valid r ws) (config_of r) (state_in r ws) arena o n a x (sym d.answer ∙ e)
@@ -50,24 +49,24 @@ module _ (r : Heap) (ws arena : List ℕ) (o n a : ℕ) (out : Allocated) (words
       split_option (first_reason order)
       (λ q. let p = allocated (config_of r) (state_in r ws) (valid r ws) arena o n a q in
       let v : valid r ws ≡ true = not-false (valid r ws) (no_reason order q).0 in
-      let e' : placed.At (16 * p.start) ≡ placed.At x = rw (q, p.fits) at (sym d.answer ∙ e) in
+      let e' : Ok (16 * p.start) ≡ Ok x = rw (q, p.fits) at (sym d.answer ∙ e) in
       let at : 16 * p.start ≡ x = cc in
       omega (arith, (lowest_place (config_of r) (state_in r ws).blocks (needed (config_of r) n) a p.start p.lowest).inside, base_ends (config_of r) (valid_range r ws v)))
-      (λ t q. let e' : placed.Refused t ≡ placed.At x = rw q at (sym d.answer ∙ e) in let z : ◌≡◌ {A = ℕ} 0 1 = cc in absurd (omega arith))
+      (λ t q. let e' : Err t ≡ Ok x = rw q at (sym d.answer ∙ e) in let z : ◌≡◌ {A = ℕ} 0 1 = cc in absurd (omega arith))
 
 -- Where the function of a resize keeps its promise and answers the offset y, the block's address is a multiple of 16, and the block, its guard included, ends at 4,294,967,296 at most.
-pub resized_address : (r : Heap) (ws bytes : List ℕ) (o x n : ℕ) (out : Reallocated) (words_after bytes_after : List ℕ) → ReallocDone r ws bytes o x n out words_after bytes_after
-    → (y : ℕ) → out.resized ≡ resized.At y → ((r.base + y) % 16 ≡ 0) × (r.base + y + 16 * needed (config_of r) n ≤ 4294967296)
+pub resized_address : (r : Heap) (ws bytes : List ℕ) (o x n : ℕ) (out : Outcome Resized) (words_after bytes_after : List ℕ) → ReallocDone r ws bytes o x n out words_after bytes_after
+    → (y : ℕ) → out.answer ≡ Ok (resized.At y) → ((r.base + y) % 16 ≡ 0) × (r.base + y + 16 * needed (config_of r) n ≤ 4294967296)
 resized_address r ws bytes o x n out words_after bytes_after d y e =
     split_option (first_reason (realloc_order (valid r ws) (config_of r) (state_in r ws) bytes o x n))
     (λ q. split (eqb n 0)
-    (λ z. let e' : resized.Freed (bytes_at (state_in r ws) x) ≡ resized.At y = rw (q, z) at (sym d.answer ∙ e) in let w : ◌≡◌ {A = ℕ} 0 1 = cc in absurd (omega arith))
+    (λ z. let e' : Ok (resized.Freed (bytes_at (state_in r ws) x)) ≡ Ok (resized.At y) = rw (q, z) at (sym d.answer ∙ e) in let w : ◌≡◌ {A = ℕ} 0 1 = cc in absurd (omega arith))
     (λ z. let p = accepted (valid r ws) (config_of r) (state_in r ws) bytes o x n (omega tests) q in
     let ranged : in_range (config_of r) ≡ true = valid_range r ws p.freed.valid in
-    let e' : resized.At (16 * p.place.start) ≡ resized.At y = rw (q, z, p.place.fits) at (sym d.answer ∙ e) in
+    let e' : Ok (resized.At (16 * p.place.start)) ≡ Ok (resized.At y) = rw (q, z, p.place.fits) at (sym d.answer ∙ e) in
     let at : 16 * p.place.start ≡ y = cc in
     (omega (arith, base_whole (config_of r) ranged), omega (arith, p.place.inside, base_ends (config_of r) ranged))))
-    (λ t q. let e' : resized.Refused t ≡ resized.At y = rw q at (sym d.answer ∙ e) in let w : ◌≡◌ {A = ℕ} 0 1 = cc in absurd (omega arith))
+    (λ t q. let e' : Err t ≡ Ok (resized.At y) = rw q at (sym d.answer ∙ e) in let w : ◌≡◌ {A = ℕ} 0 1 = cc in absurd (omega arith))
 
 -- The same record and table but for the base in the record.
 abbrev pub rebased : ℕ → Stored → Stored
@@ -192,11 +191,11 @@ alike_0 s h e =
     record { allowed = rw (h, le-leb (0 + 16 * s.heap.granules) 4294967296 (omega tests)); remainder = e }
 
 -- the base of a making that is not refused is allowed for the granules recorded
-allowed_made : (arena words : List ℕ) (p : Plan) → init arena words p ≡ made.Done → is_base (16 * (length arena / 16)) p.base ≡ true
+allowed_made : (arena words : List ℕ) (p : Plan) → init arena words p ≡ Ok tt → is_base (16 * (length arena / 16)) p.base ≡ true
 allowed_made arena words p done = let ranged : in_range (init_config arena words p) ≡ true = init_range arena words p done in search parts
 
 -- Of two makings that differ in the base alone and are not refused:
-module _ (arena words : List ℕ) (p : Plan) (b : ℕ) (done : init arena words p ≡ made.Done) (too : init arena words (plan_at b p) ≡ made.Done) where
+module _ (arena words : List ℕ) (p : Plan) (b : ℕ) (done : init arena words p ≡ Ok tt) (too : init arena words (plan_at b p) ≡ Ok tt) where
   -- both leave the same record and table but for the base,
   pub init_alike : after_init arena words (plan_at b p) ≡ rebased b (after_init arena words p)
   init_alike = init_leaves arena words (plan_at b p) too ∙ ap (rebased b) (sym (init_leaves arena words p done))
@@ -212,10 +211,10 @@ module _ (arena words : List ℕ) (p : Plan) (b : ℕ) (done : init arena words 
       (record { allowed = allowed_made arena words p done ∙ sym (allowed_made arena words (plan_at b p) too); remainder = e })
 
 -- In particular a making that is not refused is not refused with base 0 either, and leaves the same arena, and the same record and table but for the base.
-pub init_0 : (arena words : List ℕ) (p : Plan) → init arena words p ≡ made.Done
-    → (init arena words (plan_at 0 p) ≡ made.Done)
+pub init_0 : (arena words : List ℕ) (p : Plan) → init arena words p ≡ Ok tt
+    → (init arena words (plan_at 0 p) ≡ Ok tt)
     × (after_init arena words (plan_at 0 p) ≡ rebased 0 (after_init arena words p))
     × (arena_after_init arena words p ≡ arena_after_init arena words (plan_at 0 p))
 init_0 arena words p done =
-    let too : init arena words (plan_at 0 p) ≡ made.Done = with_base_0 arena words p done in
+    let too : init arena words (plan_at 0 p) ≡ Ok tt = with_base_0 arena words p done in
     (too, init_alike arena words p 0 done too, arena_init_alike arena words p 0 done too)

@@ -3,7 +3,7 @@
 use mathlib.Core.Path.{◌≡◌, sym, ap, ◌∙◌, subst}
 use mathlib.Core.Bool.{Bool, true, false}
 use mathlib.Core.List.{List, [], ◌∷◌, ◌++◌}
-use mathlib.Core.Option.{none, some}
+use Rattle.std.specs.Prelude.{None, Some, Ok, Err}
 use Prim.Native.Nat.{ℕ, ◌+◌, ◌*◌, ◌/◌, ◌%◌, ◌≤◌, ◌<◌}
 use native.Mathlib.Omega.{arith}
 use lib.Dec.{leb, ltb, eqb}
@@ -40,8 +40,6 @@ use Rattle.heap.proofs.Changing.{bounds, stored_changed}
 use Rattle.model.specs.declared.Segment.{Segment}
 use Rattle.model.specs.declared.Refusal.{Refusal}
 use Rattle.model.specs.declared.Refusal.TheVariants as refusal
-use Rattle.model.specs.declared.Freed.TheVariants as freed
-use Rattle.model.specs.declared.BlockSize.TheVariants as size
 use Rattle.heap.specs.declared.Heap.{Heap}
 use Rattle.heap.specs.declared.Lookup.{Lookup}
 use Rattle.heap.specs.declared.Lookup.TheVariants as lookup
@@ -74,8 +72,8 @@ module _ {r : Heap} {ws : List ℕ} {x i : ℕ} (b : BlockRow r ws x i) where
 
 -- The guard of a block that is read in its row, in a valid heap that is lent the whole arena:
 module _ {r : Heap} {ws : List ℕ} {x i : ℕ} (b : BlockRow r ws x i) (v : valid r ws ≡ true) (arena : List ℕ) (whole : has_recorded_length (config_of r) arena ≡ true) (s : Segment) (e : s ≡ segment_at ws i) where
-  at_row : block_at x (blocks_in r.rows ws) ≡ some s
-  at_row = b.block ∙ ap some (sym e)
+  at_row : block_at x (blocks_in r.rows ws) ≡ Some s
+  at_row = b.block ∙ ap Some (sym e)
 
   -- it lies in the arena,
   pub guard_lies : guard_offset s + guard_bytes (config_of r) ≤ length arena
@@ -84,7 +82,7 @@ module _ {r : Heap} {ws : List ℕ} {x i : ℕ} (b : BlockRow r ws x i) (v : val
       omega (arith, guard_inside (config_of r) s w.live.sized, w.inside, eqb-true (length arena) (16 * r.granules) whole)
 
   -- and 19 is asked of it.
-  pub guard_asked : (t : Bool) → t ≡ is_broken (config_of r) arena s → first_reason (broken_guard (config_of r) (blocks_in r.rows ws) arena x ∷ []) ≡ choose t (some refusal.BrokenGuard) none
+  pub guard_asked : (t : Bool) → t ≡ is_broken (config_of r) arena s → first_reason (broken_guard (config_of r) (blocks_in r.rows ws) arena x ∷ []) ≡ choose t (Some refusal.BrokenGuard) None
   guard_asked t q = rw (at_row, q)
 
 module _ (r : Heap) (ws : List ℕ) (o x : ℕ) where
@@ -100,15 +98,15 @@ module _ (r : Heap) (ws : List ℕ) (o x : ℕ) where
   -- In a valid heap the row with the granule of byte x, read as s, says what an owner's offset gets.
   module _ (v : valid r ws ≡ true) (known : is_owner o ≡ true) (i : ℕ) (w : RowOf r.rows (x / 16) ws i) (s : Segment) (e : s ≡ segment_at ws i) where
     -- in the arena, the block over the granule is s if that is live, and else there is none
-    over : leb (16 * r.granules) x ≡ false → block_over (x / 16) blocks ≡ choose (is_live s) (some s) none
+    over : leb (16 * r.granules) x ≡ false → block_over (x / 16) blocks ≡ choose (is_live s) (Some s) None
     over p =
         over_row (config_of r) r.rows ws (x / 16) i (valid_map r ws v) (omega tests) w
-        ∙ ap (λ (k : Segment). choose (is_live k) (some k) none) (sym e)
+        ∙ ap (λ (k : Segment). choose (is_live k) (Some k) None) (sym e)
 
     -- past 15, 16, 17 and 9 the block at x is s
-    begun : leb (16 * r.granules) x ≡ false → eqb (x % 16) 0 ≡ true → is_free s ≡ false → ltb s.start (x / 16) ≡ false → block_at x blocks ≡ some s
+    begun : leb (16 * r.granules) x ≡ false → eqb (x % 16) 0 ≡ true → is_free s ≡ false → ltb s.start (x / 16) ≡ false → block_at x blocks ≡ Some s
     begun p a f l =
-        let b : block_over (x / 16) blocks ≡ some s = rw f at (over p) in
+        let b : block_over (x / 16) blocks ≡ Some s = rw f at (over p) in
         let g = granule_in (x / 16) s (first_some (has_granule (x / 16)) blocks s b) in
         over_at (config_of r) x blocks s (valid_kept r ws v).ordered b (omega tests)
 
@@ -122,35 +120,35 @@ module _ (r : Heap) (ws : List ℕ) (o x : ℕ) where
         (split (eqb (x % 16) 0)
         (λ a. rw a
         (split (is_free s)
-        (λ f. let b : block_over (x / 16) blocks ≡ none = rw f at (over p) in rw (f, b))
-        (λ f. let b : block_over (x / 16) blocks ≡ some s = rw f at (over p) in
+        (λ f. let b : block_over (x / 16) blocks ≡ None = rw f at (over p) in rw (f, b))
+        (λ f. let b : block_over (x / 16) blocks ≡ Some s = rw f at (over p) in
         rw (f, b) (split (ltb s.start (x / 16)) (λ l. rw l) (λ l. rw (l, begun p a f l))))))
         (λ a. rw a))))
 
-    pub offset_refused : (why : Refusal) → first_reason (segment_order s (16 * r.granules) o x) ≡ some why → first_reason look_order ≡ some why
+    pub offset_refused : (why : Refusal) → first_reason (segment_order s (16 * r.granules) o x) ≡ Some why → first_reason look_order ≡ Some why
     offset_refused why q = asked ∙ q
 
-    pub offset_passed : first_reason (segment_order s (16 * r.granules) o x) ≡ none → LookedUp look_order r ws x (lookup.Row i)
+    pub offset_passed : first_reason (segment_order s (16 * r.granules) o x) ≡ None → LookedUp look_order r ws x (lookup.Row i)
     offset_passed q =
         let n : NoReason (segment_order s (16 * r.granules) o x) = no_reason (segment_order s (16 * r.granules) o x) q in
-        (asked ∙ q, record { in_use = w.in_use; block = begun n.0 (not-false (eqb (x % 16) 0) n.1.0) n.1.1.0 n.1.1.1.0 ∙ ap some e })
+        (asked ∙ q, record { in_use = w.in_use; block = begun n.0 (not-false (eqb (x % 16) 0) n.1.0) n.1.1.0 n.1.1.1.0 ∙ ap Some e })
 
   -- The enquiry for a block's size: refused, and of what was found in a valid heap.
-  pub size_refused : (why : Refusal) → first_reason size_order ≡ some why → BlockSizeDone r ws o x (size.Refused why)
+  pub size_refused : (why : Refusal) → first_reason size_order ≡ Some why → BlockSizeDone r ws o x (Err why)
   size_refused why e = record { answer = rw e; numbered = rw e }
 
   module _ (v : valid r ws ≡ true) (l : Lookup) (f : LookedUp look_order r ws x l) where
     sized : LookedUp size_order r ws x l
     sized = decides r ws x look_order size_order (rw v (sym (size_asks (config_of r) (state_in r ws) o x))) l f
 
-    pub size_not : (why : Refusal) → l ≡ lookup.Refused why → BlockSizeDone r ws o x (size.Refused why)
+    pub size_not : (why : Refusal) → l ≡ lookup.Refused why → BlockSizeDone r ws o x (Err why)
     size_not why q = size_refused why (subst (LookedUp size_order r ws x) q sized)
 
     pub size_row : (i : ℕ) → l ≡ lookup.Row i → (s : Segment) → s ≡ segment_at ws i → (requested held : ℕ) → requested ≡ s.requested → held ≡ bytes s
-        → BlockSizeDone r ws o x (size.Bytes requested held)
+        → BlockSizeDone r ws o x (Ok (record { requested = requested; held = held }))
     size_row i q s e requested held p h =
         let d : LookedUp size_order r ws x (lookup.Row i) = subst (LookedUp size_order r ws x) q sized in
-        let b : block_at x blocks ≡ some s = d.1.block ∙ ap some (sym e) in
+        let b : block_at x blocks ≡ Some s = d.1.block ∙ ap Some (sym e) in
         record { answer = rw (p, h, d.0, b); numbered = rw (p, h, d.0, b) }
 
   -- A free, of what was found.
@@ -166,7 +164,7 @@ module _ (r : Heap) (ws : List ℕ) (o x : ℕ) where
       asked_then : first_reason order ≡ first_reason (look_order ++ guard_order)
       asked_then = rw v (free_asks (config_of r) (state_in r ws) arena o x a)
 
-      pub free_undecided : (why : Refusal) → l ≡ lookup.Refused why → first_reason order ≡ some why
+      pub free_undecided : (why : Refusal) → l ≡ lookup.Refused why → first_reason order ≡ Some why
       free_undecided why q = asked_then ∙ first_stays look_order guard_order why (subst (LookedUp look_order r ws x) q f)
 
       module _ (i : ℕ) (q : l ≡ lookup.Row i) where
@@ -180,9 +178,9 @@ module _ (r : Heap) (ws : List ℕ) (o x : ℕ) where
         free_decided = decides r ws x guard_order order (sym (asked_then ∙ first_then look_order guard_order at.0))
 
     module _ (l : Lookup) (f : LookedUp order r ws x l) where
-      pub free_not : (why : Refusal) → l ≡ lookup.Refused why → FreeDone r ws arena o x (record { freed = freed.Refused why; heap = r }) ws arena
+      pub free_not : (why : Refusal) → l ≡ lookup.Refused why → FreeDone r ws arena o x (record { answer = Err why; heap = r }) ws arena
       free_not why q =
-          let e : first_reason order ≡ some why = subst (LookedUp order r ws x) q f in
+          let e : first_reason order ≡ Some why = subst (LookedUp order r ws x) q f in
           record { answer = rw e; numbered = rw e; heap = rw e; table = rw e; arena = rw e }
 
       module _ (i : ℕ) (q : l ≡ lookup.Row i) where
@@ -212,8 +210,8 @@ module _ (r : Heap) (ws : List ℕ) (o x : ℕ) where
 
         -- The row is read as s.
         module _ (s : Segment) (e : s ≡ segment_at ws i) where
-          freed_block : block_at x blocks ≡ some s
-          freed_block = found.1.block ∙ ap some (sym e)
+          freed_block : block_at x blocks ≡ Some s
+          freed_block = found.1.block ∙ ap Some (sym e)
 
           pub free_inside : x + bytes s ≤ length arena
           free_inside = block_inside (config_of r) (state_in r ws) kept arena x s good.whole freed_block
@@ -226,7 +224,7 @@ module _ (r : Heap) (ws : List ℕ) (o x : ℕ) where
           pub free_row : (m : ℕ) (after : List ℕ) → Rewritten r.rows ws (released i (segments_in r.rows ws)) m after
               → (h : Heap) (used : ℕ) → h ≡ updated_of r m used → used + s.length ≡ r.used
               → (k : ℕ) → k ≡ bytes s → (cleared : List ℕ) (v : ℕ) → cleared ≡ written x (replicate k v) arena → v ≡ 0
-              → FreeDone r ws arena o x (record { freed = freed.Bytes k; heap = h }) after cleared
+              → FreeDone r ws arena o x (record { answer = Ok k; heap = h }) after cleared
           free_row m after w h used u n k b cleared v a z =
               let t : handed (updated_of r m used) after ≡ store (config_of r) (releasing (state_in r ws) x) =
               stored_changed r ws good.valid (without x blocks) (released i (segments_in r.rows ws)) m used after rows (omega (arith, free_left)) w in

@@ -2,7 +2,7 @@
 -- Assumes nothing.
 use mathlib.Core.Path.{◌≡◌, sym, ap, ◌∙◌}
 use mathlib.Core.List.{List}
-use mathlib.Core.Option.{Option, none, some}
+use Rattle.std.specs.Prelude.{Option, None, Some, Ok, Err}
 use Prim.Native.Nat.{ℕ, ◌+◌, ◌*◌}
 use native.Mathlib.Omega.{arith}
 use lib.Dec.{leb, ltb}
@@ -22,16 +22,13 @@ use Rattle.heap.proofs.ValidStored.{valid_kept}
 use Rattle.model.specs.declared.Segment.{Segment}
 use Rattle.model.specs.declared.Refusal.{Refusal}
 use Rattle.model.specs.declared.Refusal.TheVariants as refusal
-use Rattle.model.specs.declared.Placed.TheVariants as placed
-use Rattle.model.specs.declared.Freed.TheVariants as freed
 use Rattle.model.specs.declared.Resized.TheVariants as resized
 use Rattle.heap.specs.declared.Heap.{Heap}
-use Rattle.heap.specs.declared.Allocated.{Allocated}
-use Rattle.heap.specs.declared.Released.{Released}
-use Rattle.heap.specs.declared.Reallocated.{Reallocated}
+use Rattle.model.specs.declared.Resized.{Resized}
+use Rattle.heap.specs.declared.Outcome.{Outcome}
 
 -- Where the function of an allocation keeps its promise:
-module _ (r : Heap) (ws bytes : List ℕ) (o n a : ℕ) (out : Allocated) (words_after bytes_after : List ℕ) (d : AllocDone r ws bytes o n a out words_after bytes_after) where
+module _ (r : Heap) (ws bytes : List ℕ) (o n a : ℕ) (out : Outcome ℕ) (words_after bytes_after : List ℕ) (d : AllocDone r ws bytes o n a out words_after bytes_after) where
   -- in a heap without guards the arena stays as it was,
   pub unguarded_stays : r.guards ≡ 0 → bytes_after ≡ bytes
   unguarded_stays z = d.arena ∙ arena_alloc_blind (config_of r) z (valid r ws) (state_in r ws) bytes o n a
@@ -49,24 +46,24 @@ module _ (r : Heap) (ws bytes : List ℕ) (o n a : ℕ) (out : Allocated) (words
       }
 
   -- where it answers the offset x, the bytes of the granule after those that n bytes fill from there are 0x77 if there are guards, and every other byte stays.
-  pub granted_bytes : (x : ℕ) → out.placed ≡ placed.At x
+  pub granted_bytes : (x : ℕ) → out.answer ≡ Ok x
       → (i : ℕ) → get_or bytes_after i 0 ≡ choose (both (leb (x + 16 * granules_for n) i) (ltb i (x + 16 * granules_for n + 16 * r.guards))) 0x77 (get_or bytes i 0)
   granted_bytes x e i =
       let order : Order Refusal = alloc_order (valid r ws) (config_of r) (state_in r ws) bytes o n a in
       split_option (first_reason order)
       (λ q. let p = allocated (config_of r) (state_in r ws) (valid r ws) bytes o n a q in
-      let e' : placed.At (16 * p.start) ≡ placed.At x = rw (q, p.fits) at (sym d.answer ∙ e) in
+      let e' : Ok (16 * p.start) ≡ Ok x = rw (q, p.fits) at (sym d.answer ∙ e) in
       let at : 16 * p.start ≡ x = cc in
       let g : 16 * (p.start + granules_for n) ≡ x + 16 * granules_for n = omega arith in
       ap (λ (l : List ℕ). get_or l i 0) d.arena
       ∙ alloc_each (valid r ws) (config_of r) (state_in r ws) bytes o n a q (block (config_of r) o n p.start) p.fits i
       ∙ ap (λ (k : ℕ). choose (both (leb k i) (ltb i (k + 16 * r.guards))) 0x77 (get_or bytes i 0)) g)
-      (λ t q. let e' : placed.Refused t ≡ placed.At x = rw q at (sym d.answer ∙ e) in let z : ◌≡◌ {A = ℕ} 0 1 = cc in absurd (omega arith))
+      (λ t q. let e' : Err t ≡ Ok x = rw q at (sym d.answer ∙ e) in let z : ◌≡◌ {A = ℕ} 0 1 = cc in absurd (omega arith))
 
 -- A resize that is not refused does not answer 19.
-no_19 : (f : Option Segment) (k : ℕ) → ¬ (given f (resized.Freed k) (λ b. resized.At (offset b)) ≡ resized.Refused refusal.BrokenGuard)
-no_19 none k e = let z : ◌≡◌ {A = ℕ} 0 1 = cc in omega arith
-no_19 (some b) k e = let z : ◌≡◌ {A = ℕ} 0 1 = cc in omega arith
+no_19 : (f : Option Segment) (k : ℕ) → ¬ (given f (Ok (resized.Freed k)) (λ b. Ok (resized.At (offset b))) ≡ Err refusal.BrokenGuard)
+no_19 None k e = let z : ◌≡◌ {A = ℕ} 0 1 = cc in omega arith
+no_19 (Some b) k e = let z : ◌≡◌ {A = ℕ} 0 1 = cc in omega arith
 
 -- Of a free and a resize by owner o of the block at x: what they find broken is a valid heap, its whole arena, o's block at x, and a byte of its guard that is not 0x77.
 module _ (r : Heap) (ws bytes : List ℕ) (o x : ℕ) where
@@ -74,35 +71,35 @@ module _ (r : Heap) (ws bytes : List ℕ) (o x : ℕ) where
   Broken = FoundBroken (valid r ws) (config_of r) (state_in r ws) bytes o x
 
   -- Where the function of a free keeps its promise,
-  module _ (out : Released) (words_after bytes_after : List ℕ) (d : FreeDone r ws bytes o x out words_after bytes_after) where
+  module _ (out : Outcome ℕ) (words_after bytes_after : List ℕ) (d : FreeDone r ws bytes o x out words_after bytes_after) where
     -- it answers 19 if it finds that, and changes nothing,
-    pub broken_free : Broken → (out.freed ≡ freed.Refused refusal.BrokenGuard) × (out.heap ≡ r) × (words_after ≡ ws) × (bytes_after ≡ bytes)
+    pub broken_free : Broken → (out.answer ≡ Err refusal.BrokenGuard) × (out.heap ≡ r) × (words_after ≡ ws) × (bytes_after ≡ bytes)
     broken_free f =
-        let e : first_reason (free_order (valid r ws) (config_of r) (state_in r ws) bytes o x) ≡ some refusal.BrokenGuard =
+        let e : first_reason (free_order (valid r ws) (config_of r) (state_in r ws) bytes o x) ≡ Some refusal.BrokenGuard =
         told_free (valid r ws) (config_of r) (state_in r ws) bytes o x (valid_kept r ws f.valid) f in
         (d.answer ∙ rw e, d.heap ∙ rw e, d.table ∙ rw e, d.arena ∙ rw e)
 
     -- and only then.
-    pub free_broken : out.freed ≡ freed.Refused refusal.BrokenGuard → Broken
+    pub free_broken : out.answer ≡ Err refusal.BrokenGuard → Broken
     free_broken e =
         split_option (first_reason (free_order (valid r ws) (config_of r) (state_in r ws) bytes o x))
-        (λ q. let e' : freed.Bytes _ ≡ freed.Refused refusal.BrokenGuard = rw q at (sym d.answer ∙ e) in let z : ◌≡◌ {A = ℕ} 0 1 = cc in absurd (omega arith))
-        (λ why q. let e' : freed.Refused why ≡ freed.Refused refusal.BrokenGuard = rw q at (sym d.answer ∙ e) in let same : why ≡ refusal.BrokenGuard = cc in
+        (λ q. let e' : Ok _ ≡ Err refusal.BrokenGuard = rw q at (sym d.answer ∙ e) in let z : ◌≡◌ {A = ℕ} 0 1 = cc in absurd (omega arith))
+        (λ why q. let e' : Err why ≡ Err refusal.BrokenGuard = rw q at (sym d.answer ∙ e) in let same : why ≡ refusal.BrokenGuard = cc in
         free_19 (valid r ws) (config_of r) (state_in r ws) bytes o x why q (ap number_of same))
 
   -- Where the function of a resize does, to whatever size,
-  module _ (n : ℕ) (out : Reallocated) (words_after bytes_after : List ℕ) (d : ReallocDone r ws bytes o x n out words_after bytes_after) where
+  module _ (n : ℕ) (out : Outcome Resized) (words_after bytes_after : List ℕ) (d : ReallocDone r ws bytes o x n out words_after bytes_after) where
     -- so does it,
-    pub broken_realloc : Broken → (out.resized ≡ resized.Refused refusal.BrokenGuard) × (out.heap ≡ r) × (words_after ≡ ws) × (bytes_after ≡ bytes)
+    pub broken_realloc : Broken → (out.answer ≡ Err refusal.BrokenGuard) × (out.heap ≡ r) × (words_after ≡ ws) × (bytes_after ≡ bytes)
     broken_realloc f =
-        let e : first_reason (realloc_order (valid r ws) (config_of r) (state_in r ws) bytes o x n) ≡ some refusal.BrokenGuard =
+        let e : first_reason (realloc_order (valid r ws) (config_of r) (state_in r ws) bytes o x n) ≡ Some refusal.BrokenGuard =
         (realloc_19_exactly (valid r ws) (config_of r) (state_in r ws) bytes o x (valid_kept r ws f.valid) n).1 f in
         (d.answer ∙ rw e, d.heap ∙ rw e, d.table ∙ rw e, d.arena ∙ rw e)
 
     -- and only then.
-    pub realloc_broken : out.resized ≡ resized.Refused refusal.BrokenGuard → Broken
+    pub realloc_broken : out.answer ≡ Err refusal.BrokenGuard → Broken
     realloc_broken e =
         split_option (first_reason (realloc_order (valid r ws) (config_of r) (state_in r ws) bytes o x n))
         (λ q. absurd (no_19 (resize (config_of r) (state_in r ws).blocks o x n) _ (rw q at (sym d.answer ∙ e))))
-        (λ why q. let e' : resized.Refused why ≡ resized.Refused refusal.BrokenGuard = rw q at (sym d.answer ∙ e) in let same : why ≡ refusal.BrokenGuard = cc in
+        (λ why q. let e' : Err why ≡ Err refusal.BrokenGuard = rw q at (sym d.answer ∙ e) in let same : why ≡ refusal.BrokenGuard = cc in
         realloc_19 (valid r ws) (config_of r) (state_in r ws) bytes o x n why q (ap number_of same))

@@ -3,7 +3,7 @@
 use mathlib.Core.Path.{◌≡◌, sym, ap, ◌∙◌}
 use mathlib.Core.Bool.{true, false}
 use mathlib.Core.List.{List, [], ◌∷◌, ◌++◌, append-nil}
-use mathlib.Core.Option.{none, some}
+use Rattle.std.specs.Prelude.{None, Some, Ok, Err}
 use Prim.Native.Nat.{ℕ, ◌*◌, ◌/◌, ◌-◌, ◌+◌, ◌≤◌}
 use native.Mathlib.Omega.{arith}
 use lib.ListN.{length, replicate, length-replicate, drop_of_length-le}
@@ -30,12 +30,11 @@ use Rattle.heap.specs.declared.Initialized.{Initialized}
 use Rattle.heap.proofs.Conditions.{Conditions, valid_conditions}
 use Rattle.model.specs.declared.Plan.{Plan}
 use Rattle.model.specs.declared.InitRefusal.{InitRefusal}
-use Rattle.model.specs.declared.Made.TheVariants as made
 
-not_done : (r : InitRefusal) → made.Refused r ≡ made.Done → ⊥
+not_done : (r : InitRefusal) → Err r ≡ Ok (tt {0}) → ⊥
 not_done r e = let z : ◌≡◌ {A = ℕ} 0 1 = cc in omega arith
 
-done_none : (rs : Order InitRefusal) → given (first_reason rs) made.Done made.Refused ≡ made.Done → first_reason rs ≡ none
+done_none : (rs : Order InitRefusal) → given (first_reason rs) (Ok (tt {0})) Err ≡ Ok (tt {0}) → first_reason rs ≡ None
 done_none rs e = split_option (first_reason rs) (λ q. q) (λ r q. absurd (not_done r (rw q at e)))
 
 -- an arena's length is a whole number of granules
@@ -46,8 +45,8 @@ arena_granules n e = omega (arith, arena_whole n e)
 pub base_granules : (n b : ℕ) → is_arena n ≡ true → is_base n b ≡ is_base (16 * (n / 16)) b
 base_granules n b e = ap (λ (k : ℕ). is_base k b) (sym (arena_granules n e))
 
-module _ (arena words : List ℕ) (p : Plan) (done : init arena words p ≡ made.Done) where
-  pub none_applies : first_reason (init_order arena words p) ≡ none
+module _ (arena words : List ℕ) (p : Plan) (done : init arena words p ≡ Ok tt) where
+  pub none_applies : first_reason (init_order arena words p) ≡ None
   none_applies = done_none (init_order arena words p) done
 
   pub init_leaves : after_init arena words p ≡ store (init_config arena words p) fresh
@@ -93,15 +92,15 @@ pub zero_invalid : (ws : List ℕ) → valid zero_heap ws ≡ false
 zero_invalid ws = split (valid zero_heap ws) (λ q. let k : Conditions zero_heap ws = valid_conditions zero_heap ws q in absurd (omega (arith, k.rows_least))) (λ q. q)
 
 -- The reason that a making answers is the first that applies.
-pub init_reason : (arena words : List ℕ) (p : Plan) (why : InitRefusal) → init arena words p ≡ made.Refused why → first_reason (init_order arena words p) ≡ some why
+pub init_reason : (arena words : List ℕ) (p : Plan) (why : InitRefusal) → init arena words p ≡ Err why → first_reason (init_order arena words p) ≡ Some why
 init_reason arena words p why e =
     split_option (first_reason (init_order arena words p))
     (λ q. absurd (not_done why (sym (rw q at e))))
-    (λ r q. let e' : made.Refused r ≡ made.Refused why = rw q at e in let z : r ≡ why = cc in q ∙ ap some z)
+    (λ r q. let e' : Err r ≡ Err why = rw q at e in let z : r ≡ why = cc in q ∙ ap Some z)
 
 -- What a making that is refused leaves: all that was handed in, and an all-zero record.
-pub refused_leaves : (arena words : List ℕ) (p : Plan) (why : InitRefusal) (out : Initialized) → (out.made ≡ made.Refused why) × (out.heap ≡ zero_heap)
-    → first_reason (init_order arena words p) ≡ some why → InitDone arena words p out arena words
+pub refused_leaves : (arena words : List ℕ) (p : Plan) (why : InitRefusal) (out : Initialized) → (out.answer ≡ Err why) × (out.heap ≡ zero_heap)
+    → first_reason (init_order arena words p) ≡ Some why → InitDone arena words p out arena words
 refused_leaves arena words p why out o q =
     record { answer = rw q o.0; numbered = rw q (ap made_numbered o.0); heap = rw q o.1; table = rw q; arena = rw q }
 
@@ -111,7 +110,7 @@ zeroed_whole arena =
     let h : length arena ≤ 0 + length arena = omega arith in rw (length-replicate, drop_of_length-le arena h, append-nil)
 
 -- What a making that is not refused leaves: the arena zeroed, the table reset, and the record of a heap with no live block.
-module _ (arena words : List ℕ) (p : Plan) (done : init arena words p ≡ made.Done) where
+module _ (arena words : List ℕ) (p : Plan) (done : init arena words p ≡ Ok tt) where
   reset_table : words_of (free_run 0 (length arena / 16) ∷ []) ++ replicate (length words - 4) 0 ≡ table_for (init_config arena words p) fresh
   reset_table =
       let z : length words - 4 ≡ 4 * (length words / 4 - 1) = omega (arith, rows_whole arena words p done) in
@@ -119,11 +118,11 @@ module _ (arena words : List ℕ) (p : Plan) (done : init arena words p ≡ made
 
   pub done_leaves : (bytes table : List ℕ) (g v : ℕ) → g ≡ choose p.guarded 1 0 → bytes ≡ written 0 (replicate (length arena) v) arena → v ≡ 0 → table ≡ words_of (free_run 0 (length arena / 16) ∷ []) ++ replicate (length words - 4) 0
       → InitDone arena words p (record {
-        made = made.Done;
+        answer = Ok tt;
         heap = record { capacity = length words / 4; rows = 1; granules = length arena / 16; base = p.base; guards = g; used = 0; peak = 0; granule_quotas = p.granule_quotas; block_quotas = p.block_quotas };
       }) bytes table
   done_leaves bytes table g v f b z t =
-      let q : first_reason (init_order arena words p) ≡ none = none_applies arena words p done in
+      let q : first_reason (init_order arena words p) ≡ None = none_applies arena words p done in
       record {
         answer = sym done;
         numbered = rw q;

@@ -3,7 +3,7 @@
 use mathlib.Core.Path.{◌≡◌, refl, sym, ap, ◌∙◌, subst}
 use mathlib.Core.Bool.{true, false}
 use mathlib.Core.List.{List, ◌++◌}
-use mathlib.Core.Option.{none, some}
+use Rattle.std.specs.Prelude.{None, Some, Ok, Err}
 use Prim.Native.Nat.{ℕ, ◌+◌, ◌*◌, ◌-◌, ◌≤◌, ◌<◌}
 use native.Mathlib.Omega.{arith}
 use lib.ListN.{length}
@@ -36,7 +36,6 @@ use Rattle.heap.proofs.Changing.{Bounds, bounds, stored_changed}
 use Rattle.model.specs.declared.Segment.{Segment}
 use Rattle.model.specs.declared.Refusal.{Refusal}
 use Rattle.model.specs.declared.Refusal.TheVariants as refusal
-use Rattle.model.specs.declared.Placed.TheVariants as placed
 use Rattle.heap.specs.declared.Heap.{Heap}
 use Rattle.heap.specs.declared.Place.{Place}
 use Rattle.heap.specs.declared.Place.TheVariants as place
@@ -46,7 +45,7 @@ module _ (r : Heap) (ws : List ℕ) (o n a : ℕ) where
   abbrev last : Order Refusal
   last = place_order (config_of r) (state_in r ws) o n a
 
-  module _ (v : valid r ws ≡ true) (p : first_reason (request_order o n a) ≡ none) where
+  module _ (v : valid r ws ≡ true) (p : first_reason (request_order o n a) ≡ None) where
     -- What it says.
     module _ (g : ℕ) (size : g ≡ needed (config_of r) n) (f : Fit)
         (w : (c : Config) → c.base ≡ r.base → c.granules ≤ 4294967295 → is_map c (segments_in r.rows ws) ≡ true → Found c r.rows g a ws f) where
@@ -55,7 +54,7 @@ module _ (r : Heap) (ws : List ℕ) (o n a : ℕ) where
           subst (λ (k : ℕ). Found (config_of r) r.rows k a ws f) size
           (w (config_of r) refl (omega (arith, (bounds r ws v).granules)) (valid_map r ws v))
 
-      pub no_place_lem : f ≡ found.Nothing → first_reason last ≡ some refusal.NoPlace
+      pub no_place_lem : f ≡ found.Nothing → first_reason last ≡ Some refusal.NoPlace
       no_place_lem q = let z : Found (config_of r) r.rows (needed (config_of r) n) a ws found.Nothing = subst (Found (config_of r) r.rows (needed (config_of r) n) a ws) q here in rw z.lowest
 
       module _ (i s : ℕ) (q : f ≡ found.At i s) where
@@ -76,7 +75,7 @@ module _ (r : Heap) (ws : List ℕ) (o n a : ℕ) where
               (record { owned = l.owned; known = l.known; requested = l.size; sized = refl }) refl refl
               ∙ ap (λ (k : ℕ). r.rows - 1 + k) (sym (pieces ∙ (λ j. length (cut (row j) (is j)))))
 
-          pub table_full_lem : r.capacity < r.rows - 1 + k → first_reason last ≡ some refusal.TableFull
+          pub table_full_lem : r.capacity < r.rows - 1 + k → first_reason last ≡ Some refusal.TableFull
           table_full_lem h = rw (fit_at (config_of r) (state_in r ws) o n a s at.lowest, lt-ltb r.capacity (rows_of (config_of r) (insert asked (blocks_in r.rows ws))) (omega (arith, count)))
 
           pub place_there : r.rows - 1 + k ≤ r.capacity → Decided last r ws n a (place.At i s)
@@ -87,13 +86,13 @@ module _ (r : Heap) (ws bytes : List ℕ) (o n a : ℕ) where
   whole = alloc_order (valid r ws) (config_of r) (state_in r ws) bytes o n a
 
   -- 1 applies to what is not valid.
-  pub decided_1 : valid r ws ≡ false → first_reason whole ≡ some refusal.InvalidHeap
+  pub decided_1 : valid r ws ≡ false → first_reason whole ≡ Some refusal.InvalidHeap
   unfolding alloc_order
   decided_1 v = rw v
 
   module _ (v : valid r ws ≡ true) where
     -- 11, of a heap with guards
-    pub decided_11 : (other_guarded_arena (config_of r) bytes).0 ≡ true → first_reason whole ≡ some refusal.ArenaLength
+    pub decided_11 : (other_guarded_arena (config_of r) bytes).0 ≡ true → first_reason whole ≡ Some refusal.ArenaLength
     unfolding alloc_order
     decided_11 q = rw (v, q)
 
@@ -106,18 +105,18 @@ module _ (r : Heap) (ws bytes : List ℕ) (o n a : ℕ) where
     others lent = rw (v, lent)
 
     -- 2, 3 or 4
-    pub decided_proper : (other_guarded_arena (config_of r) bytes).0 ≡ false → (why : Refusal) → first_reason (request_order o n a) ≡ some why → first_reason whole ≡ some why
+    pub decided_proper : (other_guarded_arena (config_of r) bytes).0 ≡ false → (why : Refusal) → first_reason (request_order o n a) ≡ Some why → first_reason whole ≡ Some why
     decided_proper lent why e = others lent ∙ first_stays (request_order o n a) later why e
 
-    module _ (p : first_reason (request_order o n a) ≡ none) where
+    module _ (p : first_reason (request_order o n a) ≡ None) where
       module _ (lent : (other_guarded_arena (config_of r) bytes).0 ≡ false) where
         -- 5 or 6
-        pub decided_quotas : (why : Refusal) → first_reason (quota_order (config_of r) (state_in r ws) o n) ≡ some why → first_reason whole ≡ some why
+        pub decided_quotas : (why : Refusal) → first_reason (quota_order (config_of r) (state_in r ws) o n) ≡ Some why → first_reason whole ≡ Some why
         decided_quotas why e =
             others lent ∙ first_then (request_order o n a) later p ∙ first_stays (quota_order (config_of r) (state_in r ws) o n) (last r ws o n a) why e
 
         -- 7, 8 or a place
-        module _ (q : first_reason (quota_order (config_of r) (state_in r ws) o n) ≡ none) where
+        module _ (q : first_reason (quota_order (config_of r) (state_in r ws) o n) ≡ None) where
           rest : first_reason whole ≡ first_reason (last r ws o n a)
           rest =
               others lent ∙ first_then (request_order o n a) later p
@@ -128,9 +127,9 @@ module _ (r : Heap) (ws bytes : List ℕ) (o n a : ℕ) where
           decided_place (place.At row start) e = (rest ∙ e.0, e.1)
 
   -- Refused, it leaves all as it was.
-  pub alloc_not : (p : Place) → Decided whole r ws n a p → (why : Refusal) → p ≡ place.Refused why → AllocDone r ws bytes o n a (record { placed = placed.Refused why; heap = r }) ws bytes
+  pub alloc_not : (p : Place) → Decided whole r ws n a p → (why : Refusal) → p ≡ place.Refused why → AllocDone r ws bytes o n a (record { answer = Err why; heap = r }) ws bytes
   alloc_not p decided why q =
-      let e : first_reason whole ≡ some why = subst (Decided whole r ws n a) q decided in
+      let e : first_reason whole ≡ Some why = subst (Decided whole r ws n a) q decided in
       record { answer = rw e; numbered = rw e; heap = rw e; table = rw e; arena = rw e }
 
   -- Placed in row i at s.
@@ -154,7 +153,7 @@ module _ (r : Heap) (ws bytes : List ℕ) (o n a : ℕ) where
       granted = allocated (config_of r) (state_in r ws) (valid r ws) bytes o n a d.0
 
       start_is : granted.start ≡ s
-      start_is = let z : some granted.start ≡ some s = sym granted.lowest ∙ d.1.lowest in cc
+      start_is = let z : Some granted.start ≡ Some s = sym granted.lowest ∙ d.1.lowest in cc
 
       length_is : b.length ≡ needed (config_of r) n
       length_is = ap (λ (x : Segment). x.length) (is (config_of r) refl)
@@ -226,9 +225,9 @@ module _ (r : Heap) (ws bytes : List ℕ) (o n a : ℕ) where
         -- It answers its offset, and leaves the record and the table of the state with its block, whose guard is filled.
         pub alloc_done : (out : Heap) (used : ℕ) → out ≡ updated_of r m used → used ≡ r.used + b.length → (x : ℕ) → x ≡ 16 * s
             → (bytes_after : List ℕ) → bytes_after ≡ with_guard (config_of r) b bytes
-            → AllocDone r ws bytes o n a (record { placed = placed.At x; heap = out }) after bytes_after
+            → AllocDone r ws bytes o n a (record { answer = Ok x; heap = out }) after bytes_after
         alloc_done out used e u x is-offset bytes_after filled =
-            let f : fit (config_of r) (blocks_in r.rows ws) o n a ≡ some (block (config_of r) o n s) = fit_at (config_of r) (state_in r ws) o n a s d.1.lowest in
+            let f : fit (config_of r) (blocks_in r.rows ws) o n a ≡ Some (block (config_of r) o n s) = fit_at (config_of r) (state_in r ws) o n a s d.1.lowest in
             record {
               answer = rw (d.0, f, is-offset);
               numbered = rw (d.0, f, is-offset);

@@ -3,7 +3,7 @@
 use mathlib.Core.Path.{◌≡◌, sym, ap, ◌∙◌, subst}
 use mathlib.Core.Bool.{Bool, true, false}
 use mathlib.Core.List.{List}
-use mathlib.Core.Option.{none, some}
+use Rattle.std.specs.Prelude.{None, Some, Ok, Err}
 use Prim.Native.Nat.{ℕ, ◌+◌, ◌*◌, ◌/◌, ◌≤◌, ◌<◌, min}
 use native.Mathlib.Omega.{arith}
 use lib.Dec.{leb, ltb}
@@ -17,7 +17,7 @@ use Rattle.model.specs.SegmentMap.{map_of}
 use Rattle.model.specs.Orders.{Order, unless, first_reason, free_order, realloc_order, block_size_order}
 use Rattle.model.specs.Rules.{bytes_at, resizing}
 use Rattle.model.specs.Rules as rules
-use Rattle.model.proofs.Choosing.{split, split_option, tests, one_holds}
+use Rattle.model.proofs.Choosing.{split, split_option, ok_value, tests, one_holds}
 use Rattle.model.proofs.Offsets.{Begins, begins}
 use Rattle.model.proofs.Kept.{Kept}
 use Rattle.model.proofs.Released.{Released, released}
@@ -36,48 +36,48 @@ use Rattle.heap.proofs.ValidStored.{store_is, valid_kept, valid_range}
 use Rattle.model.specs.declared.Segment.{Segment}
 use Rattle.model.specs.declared.Refusal.{Refusal}
 use Rattle.model.specs.declared.Refusal.TheVariants as refusal
-use Rattle.model.specs.declared.BlockSize.TheVariants as size
 use Rattle.model.specs.declared.Resized.TheVariants as answer
+use Rattle.model.specs.declared.BlockSize.{BlockSize}
 
 module _ (s : Stored) (arena : List ℕ) (o x n : ℕ) where
   abbrev order : Order Refusal
   order = realloc_order (is_valid s) (config s) (state s) arena o x n
 
   -- Refused, it leaves the record and the table as they were, and the arena.
-  pub realloc_refused : (r : Refusal) → realloc s arena o x n ≡ answer.Refused r → (after_realloc s arena o x n ≡ s) × (arena_after_realloc s arena o x n ≡ arena)
+  pub realloc_refused : (r : Refusal) → realloc s arena o x n ≡ Err r → (after_realloc s arena o x n ≡ s) × (arena_after_realloc s arena o x n ≡ arena)
   realloc_refused r e =
       split_option (first_reason order)
       (λ q. absurd (split_option (resize (config s) (state s).blocks o x n)
-      (λ p. let z : answer.Freed (bytes_at (state s) x) ≡ answer.Refused r = rw (q, p) at e in let w : ◌≡◌ {A = ℕ} 0 1 = cc in omega arith)
-      (λ b p. let z : answer.At (offset b) ≡ answer.Refused r = rw (q, p) at e in let w : ◌≡◌ {A = ℕ} 0 1 = cc in omega arith)))
+      (λ p. let z : Ok (answer.Freed (bytes_at (state s) x)) ≡ Err r = rw (q, p) at e in let w : ◌≡◌ {A = ℕ} 0 1 = cc in omega arith)
+      (λ b p. let z : Ok (answer.At (offset b)) ≡ Err r = rw (q, p) at e in let w : ◌≡◌ {A = ℕ} 0 1 = cc in omega arith)))
       (λ t q. (rw q, rw q))
 
   -- What is not a valid heap gets 1, and stays as it was.
   pub realloc_invalid : is_valid s ≡ false
-      → (realloc s arena o x n ≡ answer.Refused refusal.InvalidHeap) × (after_realloc s arena o x n ≡ s) × (arena_after_realloc s arena o x n ≡ arena)
+      → (realloc s arena o x n ≡ Err refusal.InvalidHeap) × (after_realloc s arena o x n ≡ s) × (arena_after_realloc s arena o x n ≡ arena)
   unfolding realloc_order free_order
   realloc_invalid v = (rw v, rw v, rw v)
 
   -- what a resize that is answered y has found and leaves
   record Answered (y : ℕ) : Type 0 where
-    passed : first_reason order ≡ none
+    passed : first_reason order ≡ None
     old : Segment
-    was : block_at x (state s).blocks ≡ some old
+    was : block_at x (state s).blocks ≡ Some old
     new : Segment
-    left : resize (config s) (state s).blocks o x n ≡ some new
+    left : resize (config s) (state s).blocks o x n ≡ Some new
     at : offset new ≡ y
     sized : new.length ≡ needed (config s) n
     asks : new.requested ≡ n
     good : is_valid s ≡ true
     kept : Kept (config s) (state s)
 
-  answered : (y : ℕ) → realloc s arena o x n ≡ answer.At y → Answered y
+  answered : (y : ℕ) → realloc s arena o x n ≡ Ok (answer.At y) → Answered y
   answered y e =
       split_option (first_reason order)
       (λ q. let f : Released (is_valid s) (config s) (state s) arena o x = released (is_valid s) (config s) (state s) arena o x (free_first_lem (is_valid s) (config s) (state s) arena o x n q) in
       split_option (resize (config s) (state s).blocks o x n)
-      (λ p. let z : answer.Freed (bytes_at (state s) x) ≡ answer.At y = rw (q, p) at e in let w : ◌≡◌ {A = ℕ} 0 1 = cc in absurd (omega arith))
-      (λ b p. let z : answer.At (offset b) ≡ answer.At y = rw (q, p) at e in
+      (λ p. let z : Ok (answer.Freed (bytes_at (state s) x)) ≡ Ok (answer.At y) = rw (q, p) at e in let w : ◌≡◌ {A = ℕ} 0 1 = cc in absurd (omega arith))
+      (λ b p. let z : Ok (answer.At (offset b)) ≡ Ok (answer.At y) = rw (q, p) at e in
       record {
         passed = q;
         old = f.block;
@@ -90,7 +90,7 @@ module _ (s : Stored) (arena : List ℕ) (o x n : ℕ) where
         good = f.valid;
         kept = valid_kept s.heap s.words f.valid;
       }))
-      (λ t q. let z : answer.Refused t ≡ answer.At y = rw q at e in let w : ◌≡◌ {A = ℕ} 0 1 = cc in absurd (omega arith))
+      (λ t q. let z : Err t ≡ Ok (answer.At y) = rw q at e in let w : ◌≡◌ {A = ℕ} 0 1 = cc in absurd (omega arith))
 
   -- answered where it was, it stayed
   answered_there : {y : ℕ} (a : Answered y) → y ≡ x → 1 ≤ n → stays (config s) (state s).blocks x n ≡ true
@@ -98,18 +98,18 @@ module _ (s : Stored) (arena : List ℕ) (o x n : ℕ) where
       let b : Begins (config s) 0 x (state s).blocks a.old = begins (config s) 0 x (state s).blocks a.old a.kept.ordered a.was in
       split (stays (config s) (state s).blocks x n)
       (λ q. q)
-      (λ q. let f : refit (config s) (state s).blocks o x n ≡ some a.new = rw (ne_eqb n 0 (omega arith)) at a.left in
+      (λ q. let f : refit (config s) (state s).blocks o x n ≡ Some a.new = rw (ne_eqb n 0 (omega arith)) at a.left in
       let d : disjoint x (bytes a.old) (offset a.new) (bytes a.new) ≡ true = moves_clear (config s) (state s).blocks a.kept.ordered x a.old a.was n o a.new q f in
       absurd (omega (arith, a.at, a.sized, b.long, one_holds (x + bytes a.old) (offset a.new) (offset a.new + bytes a.new) x d)))
 
   -- For a block whose size is answered as these bytes, and a resize that answers y:
-  module _ (requested held : ℕ) (asked : block_size s o x ≡ size.Bytes requested held) (y : ℕ) (e : realloc s arena o x n ≡ answer.At y) where
+  module _ (requested held : ℕ) (asked : block_size s o x ≡ Ok (record { requested = requested; held = held })) (y : ℕ) (e : realloc s arena o x n ≡ Ok (answer.At y)) where
     -- what the enquiry told
-    told : (b : Segment) → block_at x (state s).blocks ≡ some b → (b.requested ≡ requested) × (bytes b ≡ held)
+    told : (b : Segment) → block_at x (state s).blocks ≡ Some b → (b.requested ≡ requested) × (bytes b ≡ held)
     told b w =
         split_option (first_reason (block_size_order (is_valid s) (config s) (state s) o x))
-        (λ q. let z : size.Bytes b.requested (bytes b) ≡ size.Bytes requested held = rw (q, w) at asked in (cc, cc))
-        (λ t q. let z : size.Refused t ≡ size.Bytes requested held = rw q at asked in let w : ◌≡◌ {A = ℕ} 0 1 = cc in absurd (omega arith))
+        (λ q. let z : Ok (record { requested = b.requested; held = bytes b }) ≡ Ok (record { requested = requested; held = held }) = rw (q, w) at asked in (ap (λ (a : BlockSize). a.requested) (ok_value z), ap (λ (a : BlockSize). a.held) (ok_value z)))
+        (λ t q. let z : Err t ≡ Ok (record { requested = requested; held = held }) = rw q at asked in let w : ◌≡◌ {A = ℕ} 0 1 = cc in absurd (omega arith))
 
     -- The first bytes, up to the smaller of the sizes requested before and now, are kept.
     pub realloc_kept : (i : ℕ) → i < min requested n → get_or (arena_after_realloc s arena o x n) (y + i) 0 ≡ get_or arena (x + i) 0
@@ -162,7 +162,7 @@ module _ (s : Stored) (arena : List ℕ) (o x n : ℕ) where
     -- Answered where it was, the block is put back as it was by a resize to the bytes requested before, if no byte of its guard was changed meanwhile: this is not refused, and every word of the table is as it was before both.
     pub realloc_back : y ≡ x → (bytes : List ℕ) → has_recorded_length (config s) bytes ≡ true
         → ((i : ℕ) → x + 16 * granules_for n ≤ i → i < x + 16 * needed (config s) n → get_or bytes i 0 ≡ 0x77)
-        → (realloc (after_realloc s arena o x n) bytes o x requested ≡ answer.At x) × ((after_realloc (after_realloc s arena o x n) bytes o x requested).words ≡ s.words)
+        → (realloc (after_realloc s arena o x n) bytes o x requested ≡ Ok (answer.At x)) × ((after_realloc (after_realloc s arena o x n) bytes o x requested).words ≡ s.words)
     realloc_back here content whole unchanged =
         let a : Answered y = answered y e in
         let c : Config = config s in
@@ -186,7 +186,7 @@ module _ (s : Stored) (arena : List ℕ) (o x n : ℕ) where
         let ranged : in_range c ≡ true = valid_range s.heap s.words a.good in (
           ap (λ (u : Stored). realloc u content o x requested) left
               ∙ (λ i. rules.realloc (stored_valid c h' k ranged i) c (state_back c h' k i) content o x requested)
-              ∙ rw (granted, ne_eqb requested 0 (omega arith), there) (ap answer.At b.first),
+              ∙ rw (granted, ne_eqb requested 0 (omega arith), there) (ap (λ (y : ℕ). Ok (answer.At y)) b.first),
           ap (λ (u : Stored). (after_realloc u content o x requested).words) left
               ∙ (λ i. (unless (realloc_order (stored_valid c h' k ranged i) c (state_back c h' k i) content o x requested) (store c (resizing c (state_back c h' k i) o x requested)) (λ r. store c h')).words)
               ∙ rw granted (ap (λ (bs : List Segment). table_of c.capacity (map_of c bs)) blocks)

@@ -3,7 +3,7 @@
 use mathlib.Core.Path.{◌≡◌, refl, sym, ap, ◌∙◌, subst}
 use mathlib.Core.Bool.{true}
 use mathlib.Core.List.{List}
-use mathlib.Core.Option.{some}
+use Rattle.std.specs.Prelude.{Some, Result, Ok, Err}
 use Prim.Native.Nat.{ℕ, ◌+◌, ◌*◌, ◌/◌, ◌≤◌}
 use native.Mathlib.Omega.{arith}
 use lib.Dec.{leb, eqb}
@@ -16,7 +16,7 @@ use Rattle.model.specs.Arena.{disjoint, moved, guard_offset, guard_bytes, with_g
 use Rattle.model.specs.SegmentMap.{map_of, rows_of}
 use Rattle.model.specs.Orders.{Order, first_reason, realloc_order}
 use Rattle.model.specs.Rules.{as_resize}
-use Rattle.model.specs.Numbers.{resized_numbered, freed_numbered}
+use Rattle.model.specs.Numbers.{resized_numbered, value_numbered}
 use Rattle.model.proofs.Choosing.{split, both_true}
 use Rattle.model.proofs.Ordered.{total_insert}
 use Rattle.model.proofs.Kept.{Kept}
@@ -42,29 +42,27 @@ use Rattle.heap.proofs.Freeing.{row_words, row_at, guard_lies}
 use Rattle.heap.proofs.Refitting.{replaceable, same_blocks}
 use Rattle.model.specs.declared.Segment.{Segment}
 use Rattle.model.specs.declared.Refusal.{Refusal}
-use Rattle.model.specs.declared.Freed.{Freed}
-use Rattle.model.specs.declared.Freed.TheVariants as freed
 use Rattle.model.specs.declared.Resized.TheVariants as answer
 use Rattle.heap.specs.declared.Heap.{Heap}
-use Rattle.heap.specs.declared.Released.{Released}
-use Rattle.heap.specs.declared.Reallocated.{Reallocated}
+use Rattle.model.specs.declared.Resized.{Resized}
+use Rattle.heap.specs.declared.Outcome.{Outcome}
 use Rattle.heap.specs.declared.Place.{Place}
 use Rattle.heap.specs.declared.Place.TheVariants as place
 
 -- a free's answer has the same number and value as a resize's
-same_numbers : (f : Freed) → resized_numbered (as_resize f) ≡ freed_numbered f
-same_numbers (freed.Bytes k) = refl
-same_numbers (freed.Refused why) = refl
+same_numbers : (f : Result ℕ Refusal) → resized_numbered (as_resize f) ≡ value_numbered f
+same_numbers (Ok k) = refl
+same_numbers (Err why) = refl
 
 -- To size 0 it is a free.
-pub realloc_zero : (r : Heap) (ws arena : List ℕ) (o x n : ℕ) → n ≡ 0 → (f : Released) (after left : List ℕ) → FreeDone r ws arena o x f after left
-    → (out : Reallocated) → (out.resized ≡ as_resize f.freed) × (out.heap ≡ f.heap) → ReallocDone r ws arena o x n out after left
+pub realloc_zero : (r : Heap) (ws arena : List ℕ) (o x n : ℕ) → n ≡ 0 → (f : Outcome ℕ) (after left : List ℕ) → FreeDone r ws arena o x f after left
+    → (out : Outcome Resized) → (out.answer ≡ as_resize f.answer) × (out.heap ≡ f.heap) → ReallocDone r ws arena o x n out after left
 realloc_zero r ws arena o x n z f after left d out e =
     let order = zero_order (valid r ws) (config_of r) (state_in r ws) arena o x in
     subst (λ (n : ℕ). ReallocDone r ws arena o x n out after left) (sym z)
     (record {
       answer = e.0 ∙ ap as_resize d.answer ∙ sym (zero_answer (valid r ws) (config_of r) (state_in r ws) arena o x);
-      numbered = ap resized_numbered e.0 ∙ same_numbers f.freed ∙ rw order d.numbered;
+      numbered = ap resized_numbered e.0 ∙ same_numbers f.answer ∙ rw order d.numbered;
       heap = e.1 ∙ rw order d.heap;
       table = rw order d.table;
       arena = rw order d.arena;
@@ -79,9 +77,9 @@ module _ (r : Heap) (ws arena : List ℕ) (o x n : ℕ) (some_size : 1 ≤ n) wh
 
   module _ (p : Place) (decided : ResizeDecided whole r ws o x n p) where
     -- Refused, it leaves all as it was.
-    pub realloc_not : (why : Refusal) → p ≡ place.Refused why → ReallocDone r ws arena o x n (record { resized = answer.Refused why; heap = r }) ws arena
+    pub realloc_not : (why : Refusal) → p ≡ place.Refused why → ReallocDone r ws arena o x n (record { answer = Err why; heap = r }) ws arena
     realloc_not why q =
-        let e : first_reason whole ≡ some why = subst (ResizeDecided whole r ws o x n) q decided in
+        let e : first_reason whole ≡ Some why = subst (ResizeDecided whole r ws o x n) q decided in
         record { answer = rw e; numbered = rw e; heap = rw e; table = rw e; arena = rw e }
 
     module _ (i s : ℕ) (q : p ≡ place.At i s) where
@@ -108,8 +106,8 @@ module _ (r : Heap) (ws arena : List ℕ) (o x n : ℕ) (some_size : 1 ≤ n) wh
 
       -- The block in row i is read as old, and the resized one is new.
       module _ (old new : Segment) (old_is : old ≡ segment_at ws i) (is : new ≡ block (config_of r) o n s) where
-        was : block_at x blocks ≡ some old
-        was = d.1.old.block ∙ ap some (sym old_is)
+        was : block_at x blocks ≡ Some old
+        was = d.1.old.block ∙ ap Some (sym old_is)
 
         long : new.length ≡ needed (config_of r) n
         long = ap (λ (b : Segment). b.length) is
@@ -122,7 +120,7 @@ module _ (r : Heap) (ws arena : List ℕ) (o x n : ℕ) (some_size : 1 ≤ n) wh
 
         rows_few : rows_of (config_of r) (insert (block (config_of r) o n s) (without x blocks)) ≤ r.capacity
         rows_few =
-            let e : some (block (config_of r) o n has.place.start) ≡ some (block (config_of r) o n s) = sym has.place.fits ∙ d.1.new in
+            let e : Some (block (config_of r) o n has.place.start) ≡ Some (block (config_of r) o n s) = sym has.place.fits ∙ d.1.new in
             let z : block (config_of r) o n has.place.start ≡ block (config_of r) o n s = cc in
             subst (λ (b : Segment). rows_of (config_of r) (insert b (without x blocks)) ≤ r.capacity) z has.rows
 
@@ -160,7 +158,7 @@ module _ (r : Heap) (ws arena : List ℕ) (o x n : ℕ) (some_size : 1 ≤ n) wh
         apart : either (eqb x (16 * s)) (both (leb (bytes old) (bytes new)) (disjoint x (bytes old) (16 * s) (bytes new))) ≡ true
         apart =
             split (stays (config_of r) blocks x n)
-            (λ t. let e : some (block (config_of r) o n (x / 16)) ≡ some (block (config_of r) o n s) = rw t at d.1.new in
+            (λ t. let e : Some (block (config_of r) o n (x / 16)) ≡ Some (block (config_of r) o n s) = rw t at d.1.new in
             let y : block (config_of r) o n (x / 16) ≡ block (config_of r) o n s = cc in
             let z : x / 16 ≡ s = ap (λ (b : Segment). b.start) y in
             rw (eq-eqb x (16 * s) (omega (arith, row_at d.1.old))))
@@ -186,7 +184,7 @@ module _ (r : Heap) (ws arena : List ℕ) (o x n : ℕ) (some_size : 1 ≤ n) wh
               (subst (λ (k : ℕ). either (eqb x k) (both (leb (bytes old) (bytes new)) (disjoint x (bytes old) k (bytes new))) ≡ true) (sym (ap offset is)) apart),
         )
 
-        resize_is : resize (config_of r) blocks o x n ≡ some (block (config_of r) o n s)
+        resize_is : resize (config_of r) blocks o x n ≡ Some (block (config_of r) o n s)
         resize_is = rw (ne_eqb n 0 (omega arith)) d.1.new
 
         -- What is live then.
@@ -213,7 +211,7 @@ module _ (r : Heap) (ws arena : List ℕ) (o x n : ℕ) (some_size : 1 ≤ n) wh
           pub realloc_done : (out : Heap) (used : ℕ) → out ≡ updated_of r m used → used + old.length ≡ new.length + r.used
               → (y : ℕ) → y ≡ 16 * s → (bytes_left : List ℕ)
               → bytes_left ≡ with_guard (config_of r) new (moved (offset old) (bytes old) (offset new) (bytes new) (without_guard (config_of r) old arena))
-              → ReallocDone r ws arena o x n (record { resized = answer.At y; heap = out }) after bytes_left
+              → ReallocDone r ws arena o x n (record { answer = Ok (answer.At y); heap = out }) after bytes_left
           realloc_done out used e u y is-offset bytes_left a =
               record {
                 answer = rw (d.0, resize_is, is-offset);

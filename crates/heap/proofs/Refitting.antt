@@ -3,7 +3,7 @@
 use mathlib.Core.Path.{◌≡◌, refl, sym, ap, ◌∙◌, subst}
 use mathlib.Core.Bool.{true, false}
 use mathlib.Core.List.{List}
-use mathlib.Core.Option.{Option, none, some}
+use Rattle.std.specs.Prelude.{Option, None, Some}
 use Prim.Native.Nat.{ℕ, ◌+◌, ◌-◌, ◌/◌, ◌%◌, ◌≤◌, ◌<◌}
 use native.Mathlib.Omega.{arith}
 use lib.Dec.{ltb}
@@ -64,14 +64,14 @@ module _ (r : Heap) (ws : List ℕ) (v : valid r ws ≡ true) (o : ℕ) (known :
     starts = omega (arith, row_at b)
 
     -- the resized block is at the start that is looked for
-    refit_is : refit (config_of r) blocks o x n ≡ given (refit_start (config_of r) r.rows i (needed (config_of r) n) ws) none (λ s. some (block (config_of r) o n s))
+    refit_is : refit (config_of r) blocks o x n ≡ given (refit_start (config_of r) r.rows i (needed (config_of r) n) ws) None (λ s. Some (block (config_of r) o n s))
     refit_is =
-        let e : refit_start (config_of r) r.rows i (needed (config_of r) n) ws ≡ choose (stays (config_of r) blocks x n) (some (x / 16)) (lowest_start (config_of r) blocks (needed (config_of r) n) 16) =
-        λ j. choose (room (config_of r) (others_are j) (needed (config_of r) n) (starts j)) (some (starts j)) (lowest_start (config_of r) blocks (needed (config_of r) n) 16) in
+        let e : refit_start (config_of r) r.rows i (needed (config_of r) n) ws ≡ choose (stays (config_of r) blocks x n) (Some (x / 16)) (lowest_start (config_of r) blocks (needed (config_of r) n) 16) =
+        λ j. choose (room (config_of r) (others_are j) (needed (config_of r) n) (starts j)) (Some (starts j)) (lowest_start (config_of r) blocks (needed (config_of r) n) 16) in
         rw e (split (stays (config_of r) blocks x n) (λ q. rw q) (λ q. rw q))
 
     -- A resized block at its start, read as d: it may take the place of the one in row i.
-    module _ (s : ℕ) (e : refit (config_of r) blocks o x n ≡ some (block (config_of r) o n s)) (d : Segment) (is : d ≡ block (config_of r) o n s) where
+    module _ (s : ℕ) (e : refit (config_of r) blocks o x n ≡ Some (block (config_of r) o n s)) (d : Segment) (is : d ≡ block (config_of r) o n s) where
       pub replaceable : Replaceable (config_of r) r.rows i d ws
       replaceable =
           let at = refitted_at (config_of r) (state_in r ws) o x n s e in
@@ -96,7 +96,7 @@ module _ (r : Heap) (ws : List ℕ) (v : valid r ws ≡ true) (o : ℕ) (known :
         rows_are : count ≡ rows_of (config_of r) (insert (block (config_of r) o n s) (without x blocks))
         rows_are = counted (config_of r) replaceable ∙ ap (rows_of (config_of r)) same_blocks
 
-        pub replace_full : r.capacity < count → first_reason (replace_order (config_of r) (state_in r ws) o x n) ≡ some refusal.TableFull
+        pub replace_full : r.capacity < count → first_reason (replace_order (config_of r) (state_in r ws) o x n) ≡ Some refusal.TableFull
         replace_full h = rw (e, lt-ltb r.capacity (rows_of (config_of r) (insert (block (config_of r) o n s) (without x blocks))) (omega (arith, rows_are)))
 
         pub replace_there : count ≤ r.capacity → ResizeDecided (replace_order (config_of r) (state_in r ws) o x n) r ws o x n (place.At i s)
@@ -106,19 +106,19 @@ module _ (r : Heap) (ws : List ℕ) (v : valid r ws ≡ true) (o : ℕ) (known :
     -- What the search says.
     module _ (g : ℕ) (size : g ≡ needed (config_of r) n) (f : Fit)
         (w : (c : Config) → c.base % 16 ≡ 0 → c.granules ≤ 65536 → is_map c (segments_in r.rows ws) ≡ true → is_live (segment_at ws i) ≡ true → start_of f ≡ refit_start c r.rows i g ws) where
-      found_is : refit (config_of r) blocks o x n ≡ given (start_of f) none (λ s. some (block (config_of r) o n s))
+      found_is : refit (config_of r) blocks o x n ≡ given (start_of f) None (λ s. Some (block (config_of r) o n s))
       found_is =
           refit_is
-          ∙ ap (λ (t : Option ℕ). given t none (λ s. some (block (config_of r) o n s)))
+          ∙ ap (λ (t : Option ℕ). given t None (λ s. Some (block (config_of r) o n s)))
           (sym (w (config_of r) bounded.base bounded.granules (valid_map r ws v) (row_live b) ∙ ap (λ (k : ℕ). refit_start (config_of r) r.rows i k ws) size))
 
       -- 7: there is no place,
-      pub replace_nowhere : f ≡ found.Nothing → first_reason (replace_order (config_of r) (state_in r ws) o x n) ≡ some refusal.NoPlace
-      replace_nowhere q = rw (found_is ∙ ap (λ (f : Fit). given (start_of f) none (λ s. some (block (config_of r) o n s))) q)
+      pub replace_nowhere : f ≡ found.Nothing → first_reason (replace_order (config_of r) (state_in r ws) o x n) ≡ Some refusal.NoPlace
+      replace_nowhere q = rw (found_is ∙ ap (λ (f : Fit). given (start_of f) None (λ s. Some (block (config_of r) o n s))) q)
 
       -- or there is this one.
-      pub refit_at : (j s : ℕ) → f ≡ found.At j s → refit (config_of r) blocks o x n ≡ some (block (config_of r) o n s)
-      refit_at j s q = found_is ∙ ap (λ (f : Fit). given (start_of f) none (λ s. some (block (config_of r) o n s))) q
+      pub refit_at : (j s : ℕ) → f ≡ found.At j s → refit (config_of r) blocks o x n ≡ Some (block (config_of r) o n s)
+      refit_at j s q = found_is ∙ ap (λ (f : Fit). given (start_of f) None (λ s. Some (block (config_of r) o n s))) q
 
     -- 6, by the figures that were counted.
     module _ (k : Census) (e : Examined r ws k) (owned : (segment_at ws i).owner ≡ o) where
@@ -144,7 +144,7 @@ module _ (r : Heap) (ws : List ℕ) (v : valid r ws ≡ true) (o : ℕ) (known :
             let z : held ≡ total (charge (config_of r)) (owned_by o (without x blocks)) = omega (arith, held_without) in
             λ j. ltb (sym (quota_at r.granule_quotas o (owner_least o known)) j) (z j + size j)
 
-        pub resize_exceeds : ltb (get_or r.granule_quotas (o - 1) 0) (held + g) ≡ true → first_reason (new_length_order (config_of r) (state_in r ws) o x n) ≡ some refusal.GranuleQuota
+        pub resize_exceeds : ltb (get_or r.granule_quotas (o - 1) 0) (held + g) ≡ true → first_reason (new_length_order (config_of r) (state_in r ws) o x n) ≡ Some refusal.GranuleQuota
         resize_exceeds q = rw (sym six_is ∙ q)
 
         pub resize_within : ltb (get_or r.granule_quotas (o - 1) 0) (held + g) ≡ false
@@ -161,7 +161,7 @@ module _ (r : Heap) (ws arena : List ℕ) (o x n : ℕ) (some_size : 1 ≤ n) wh
   whole = realloc_order (valid r ws) (config_of r) (state_in r ws) arena o x n
 
   module _ (l : Lookup) (f : LookedUp before r ws x l) where
-    pub refit_not : (why : Refusal) → l ≡ lookup.Refused why → first_reason whole ≡ some why
+    pub refit_not : (why : Refusal) → l ≡ lookup.Refused why → first_reason whole ≡ Some why
     refit_not why q = free_refuses (valid r ws) (config_of r) (state_in r ws) arena o x n why (subst (LookedUp before r ws x) q f)
 
     module _ (i : ℕ) (q : l ≡ lookup.Row i) where
@@ -174,7 +174,7 @@ module _ (r : Heap) (ws arena : List ℕ) (o x n : ℕ) (some_size : 1 ≤ n) wh
       -- What is asked of the row.
       pub refit_asked : (valid r ws ≡ true) × (is_owner o ≡ true) × BlockRow r ws x i × ((segment_at ws i).owner ≡ o)
       refit_asked =
-          let e : some good.block ≡ some (segment_at ws i) = sym good.found ∙ looked.1.block in
+          let e : Some good.block ≡ Some (segment_at ws i) = sym good.found ∙ looked.1.block in
           let z : good.block ≡ segment_at ws i = cc in
           (good.valid, good.owner, looked.1, ap (λ (b : Segment). b.owner) (sym z) ∙ good.owned)
 

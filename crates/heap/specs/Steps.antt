@@ -1,7 +1,6 @@
 -- What the functions within the crate decide and leave, step by step: a caller needs none of it.
 -- Assumes nothing.
-use Rattle.std.specs.Prelude.{ℕ, ◌-◌, ◌*◌, ◌/◌, ◌<◌, max, ◌≡◌, Bool, true, not, List, [], ◌∷◌, leb, ltb, eqb, length, get_or, drop}
-use Rattle.std.proofs.Math.Option.{Option, none, some}
+use Rattle.std.specs.Prelude.{ℕ, ◌-◌, ◌*◌, ◌/◌, ◌<◌, max, ◌≡◌, Bool, true, not, List, [], ◌∷◌, leb, ltb, eqb, length, get_or, drop, Option, None, Some}
 use Rattle.model.specs.Choose.{both, every}
 use Rattle.model.specs.Quantities.{within, owners, in_range, quota}
 use Rattle.model.specs.Allocation.{needed, lowest_start, block, block_at, refit}
@@ -49,18 +48,18 @@ pub record Examined (r : Heap) (ws : List ℕ) (k : Census) : Type 0 where
 
 -- The reason in a verdict.
 abbrev pub reason_in : Verdict → Option Refusal
-reason_in verdict.Passed = none
-reason_in (verdict.Refused why) = some why
+reason_in verdict.Passed = None
+reason_in (verdict.Refused why) = Some why
 
 -- A place for a block: the start is the lowest, and the row is free and has room from there on.
 pub record Lowest (r : Heap) (ws : List ℕ) (n a row start : ℕ) : Type 0 where
-  pub lowest : lowest_start (config_of r) (blocks_in r.rows ws) (needed (config_of r) n) a ≡ some start
+  pub lowest : lowest_start (config_of r) (blocks_in r.rows ws) (needed (config_of r) n) a ≡ Some start
   pub room : Room r.rows (needed (config_of r) n) ws row start
 
 -- What is decided by an order of an allocation of n bytes on a boundary of a bytes: why it is refused, or its place.
 abbrev pub Decided : Order Refusal → Heap → List ℕ → ℕ → ℕ → Place → Type 0
-Decided order r ws n a (place.Refused why) = first_reason order ≡ some why
-Decided order r ws n a (place.At row start) = (first_reason order ≡ none) × Lowest r ws n a row start
+Decided order r ws n a (place.Refused why) = first_reason order ≡ Some why
+Decided order r ws n a (place.At row start) = (first_reason order ≡ None) × Lowest r ws n a row start
 
 -- What is asked of owner o's offset x, given the arena's length in bytes and, if x is in the arena, the segment that has its granule: 15, 16, 17, 9, 10.
 abbrev pub segment_order : Segment → ℕ → ℕ → ℕ → Order Refusal
@@ -75,22 +74,22 @@ segment_order s bytes o x =
 -- A row in use has the block at x.
 pub record BlockRow (r : Heap) (ws : List ℕ) (x row : ℕ) : Type 0 where
   pub in_use : row < r.rows
-  pub block : block_at x (blocks_in r.rows ws) ≡ some (segment_at ws row)
+  pub block : block_at x (blocks_in r.rows ws) ≡ Some (segment_at ws row)
 
 -- What is decided of a call on the block at x by an order: why it is refused, or the block's row.
 abbrev pub LookedUp : Order Refusal → Heap → List ℕ → ℕ → Lookup → Type 0
-LookedUp order r ws x (lookup.Refused why) = first_reason order ≡ some why
-LookedUp order r ws x (lookup.Row row) = (first_reason order ≡ none) × BlockRow r ws x row
+LookedUp order r ws x (lookup.Refused why) = first_reason order ≡ Some why
+LookedUp order r ws x (lookup.Row row) = (first_reason order ≡ None) × BlockRow r ws x row
 
 -- Where the block at x is with n bytes requested by owner o: the row has the block at x, and the start is the resized block's.
 pub record Refitted (r : Heap) (ws : List ℕ) (o x n row start : ℕ) : Type 0 where
   pub old : BlockRow r ws x row
-  pub new : refit (config_of r) (blocks_in r.rows ws) o x n ≡ some (block (config_of r) o n start)
+  pub new : refit (config_of r) (blocks_in r.rows ws) o x n ≡ Some (block (config_of r) o n start)
 
 -- What is decided by an order of a resize of the block at x to n bytes, not 0: why it is refused, or the row of that block and the start of the resized one.
 abbrev pub ResizeDecided : Order Refusal → Heap → List ℕ → ℕ → ℕ → ℕ → Place → Type 0
-ResizeDecided order r ws o x n (place.Refused why) = first_reason order ≡ some why
-ResizeDecided order r ws o x n (place.At row start) = (first_reason order ≡ none) × Refitted r ws o x n row start
+ResizeDecided order r ws o x n (place.Refused why) = first_reason order ≡ Some why
+ResizeDecided order r ws o x n (place.At row start) = (first_reason order ≡ None) × Refitted r ws o x n row start
 
 -- The record with other rows in use and other granules used: the peak is raised to those if they are more.
 abbrev pub updated_of : Heap → ℕ → ℕ → Heap

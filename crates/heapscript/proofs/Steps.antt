@@ -126,12 +126,12 @@ module _ (u₀ u u' h₀ h h' : Option (List ℕ)) (s₀ : Session) (w₀ b₀ :
 
   -- The empty part, at the end of the input.
   pub AnswersInput-end : n ≡ 0 → AnswersInput u₀ u' h₀ h' s₀ w₀ b₀ s' w' b'
-  AnswersInput-end none =
+  AnswersInput-end None =
       record {
         input = before.input ++ now.part;
         text = before.text ++ take now.fed.out.written now.fed.room_after;
         read = Consumes-trans u₀ u u' before.input now.part before.read now.read;
-        whole = λ _. now.end none;
+        whole = λ _. now.end None;
         fed = more;
         written = Appends-trans h₀ h h' before.text (take now.fed.out.written now.fed.room_after) before.written now.written;
       }
@@ -151,22 +151,22 @@ StopsInput-end u₀ u u' h₀ h h' s₀ w₀ b₀ s w b k before now =
 -- The text for all parts and the end is the output.
 input_answered : (s₀ : Session) (w₀ b₀ : List ℕ) (s : Session) (w b input text : List ℕ) → s₀.script ≡ started → s₀.count ≡ 0 → FeedsOn s₀ w₀ b₀ input text s w b
     → (f : Finishes s w b) → text ++ take f.out f.room_after ≡ output w₀ b₀ input
-input_answered s₀ w₀ b₀ s w b input text new none fed f =
+input_answered s₀ w₀ b₀ s w b input text new None fed f =
     let end : List ℕ = take f.out f.room_after in
     let all = fed.goes_on [] end (f, refl) in
     let whole : joined all.0 ≡ input = all.1 ∙ append-nil input in
-    no_line_lost s₀ new none w₀ b₀ all.0 (text ++ end) all.2 ∙ ap (λ x. output w₀ b₀ x) whole
+    no_line_lost s₀ new None w₀ b₀ all.0 (text ++ end) all.2 ∙ ap (λ x. output w₀ b₀ x) whole
 
 -- The input from a session's start, and the end.
 pub AnswersScript-end : (u u' h₀ h h' : Option (List ℕ)) (s₀ : Session) (w₀ b₀ : List ℕ) (s : Session) (w b : List ℕ) → s₀.script ≡ started → s₀.count ≡ 0
     → AnswersInput u u' h₀ h s₀ w₀ b₀ s w b → WritesEnd h h' s w b → AnswersScript u u' h₀ h' w₀ b₀
-AnswersScript-end u u' h₀ h h' s₀ w₀ b₀ s w b new none body end =
+AnswersScript-end u u' h₀ h h' s₀ w₀ b₀ s w b new None body end =
     let text : List ℕ = take end.finished.out end.finished.room_after in
     record {
       input = body.input;
       read = body.read;
       written =
-          subst (λ x. Appends h₀ h' x) (input_answered s₀ w₀ b₀ s w b body.input body.text new none body.fed end.finished)
+          subst (λ x. Appends h₀ h' x) (input_answered s₀ w₀ b₀ s w b body.input body.text new None body.fed end.finished)
           (Appends-trans h₀ h h' body.text text body.written end.written);
       whole = body.whole;
     }
@@ -187,26 +187,26 @@ at_end (Some xs) None w b input text p e f = absurd p
 at_end (Some xs) (Some ys) w b input text p e f =
     λ short.
     let n : length xs ≡ length (input ++ ys) = ap length p in
-    let none : ys ≡ [] = e (omega (arith, n, length-append input ys, short)) in
-    let same : input ≡ xs = sym (p ∙ ap (λ l. input ++ l) none ∙ append-nil input) in
+    let None : ys ≡ [] = e (omega (arith, n, length-append input ys, short)) in
+    let same : input ≡ xs = sym (p ∙ ap (λ l. input ++ l) None ∙ append-nil input) in
     subst (λ x. Begins text (output w b x)) same f
 
 -- Reading or writing failed before the end.
 pub StopsScript-input : (u u' h h' : Option (List ℕ)) (s : Session) (w b : List ℕ) → s.script ≡ started → s.count ≡ 0 → StopsInput u u' h h' s w b → StopsScript u h h' w b
-StopsScript-input u u' h h' s w b new none stops =
+StopsScript-input u u' h h' s w b new None stops =
     record {
       text = stops.text;
       written = stops.written;
-      begins = at_input u u' w b stops.input stops.text stops.read (stops.begins new none);
+      begins = at_input u u' w b stops.input stops.text stops.read (stops.begins new None);
     }
 
 -- Writing what comes at the end failed.
 pub StopsScript-end : (u u' h₀ h h' : Option (List ℕ)) (s₀ : Session) (w₀ b₀ : List ℕ) (s : Session) (w b : List ℕ) → s₀.script ≡ started → s₀.count ≡ 0
     → AnswersInput u u' h₀ h s₀ w₀ b₀ s w b → StopsEnd h h' s w b → StopsScript u h₀ h' w₀ b₀
-StopsScript-end u u' h₀ h h' s₀ w₀ b₀ s w b new none body end =
+StopsScript-end u u' h₀ h h' s₀ w₀ b₀ s w b new None body end =
     let text : List ℕ = take end.finished.out end.finished.room_after in
     let cut : List ℕ = take end.count text in
-    let same : output w₀ b₀ body.input ≡ body.text ++ text = sym (input_answered s₀ w₀ b₀ s w b body.input body.text new none body.fed end.finished) in
+    let same : output w₀ b₀ body.input ≡ body.text ++ text = sym (input_answered s₀ w₀ b₀ s w b body.input body.text new None body.fed end.finished) in
     let parts : body.text ++ text ≡ (body.text ++ cut) ++ drop end.count text =
     ap (λ x. body.text ++ x) (sym (take-append-drop end.count text)) ∙ sym (append_assoc body.text cut (drop end.count text)) in
     record {

@@ -3,7 +3,7 @@
 use mathlib.Core.Path.{◌≡◌, refl}
 use mathlib.Core.Bool.{Bool, true, false}
 use mathlib.Core.List.{List, ◌++◌}
-use mathlib.Core.Option.{none, some}
+use Rattle.std.specs.Prelude.{None, Some}
 use Prim.Native.Nat.{ℕ, ◌+◌, ◌*◌, ◌≤◌, ◌<◌}
 use lib.Dec.{ltb}
 use lib.ListN.{length}
@@ -56,18 +56,18 @@ module _ (c : Config) (h : State) where
         granules = omega tests;
       }
 
-  pub fit_at : (o n a s : ℕ) → lowest_start c h.blocks (needed c n) a ≡ some s → fit c h.blocks o n a ≡ some (block c o n s)
+  pub fit_at : (o n a s : ℕ) → lowest_start c h.blocks (needed c n) a ≡ Some s → fit c h.blocks o n a ≡ Some (block c o n s)
   fit_at o n a s e = rw e
 
   -- an allocation that is not refused
   pub record Allocated (o n a : ℕ) : Type 0 where
     pub limited : Limits o n a
     pub start : ℕ
-    pub lowest : lowest_start c h.blocks (needed c n) a ≡ some start
-    pub fits : fit c h.blocks o n a ≡ some (block c o n start)
+    pub lowest : lowest_start c h.blocks (needed c n) a ≡ Some start
+    pub fits : fit c h.blocks o n a ≡ Some (block c o n start)
     pub rows : rows_of c (insert (block c o n start) h.blocks) ≤ c.capacity
 
-  pub allocated : (v : Bool) (arena : List ℕ) (o n a : ℕ) → first_reason (alloc_order v c h arena o n a) ≡ none → Allocated o n a
+  pub allocated : (v : Bool) (arena : List ℕ) (o n a : ℕ) → first_reason (alloc_order v c h arena o n a) ≡ None → Allocated o n a
   unfolding alloc_order
   allocated v arena o n a e =
       let r : NoReason (alloc_order v c h arena o n a) = no_reason (alloc_order v c h arena o n a) e in
@@ -84,7 +84,7 @@ module _ (c : Config) (h : State) where
       })
 
   -- In a heap with guards it is lent the whole arena.
-  pub allocated_whole : (v : Bool) (arena : List ℕ) (o n a : ℕ) → first_reason (alloc_order v c h arena o n a) ≡ none → 1 ≤ c.guards → length arena ≡ 16 * c.granules
+  pub allocated_whole : (v : Bool) (arena : List ℕ) (o n a : ℕ) → first_reason (alloc_order v c h arena o n a) ≡ None → 1 ≤ c.guards → length arena ≡ 16 * c.granules
   unfolding alloc_order
   allocated_whole v arena o n a e g =
       let r : NoReason (alloc_order v c h arena o n a) = no_reason (alloc_order v c h arena o n a) e in

@@ -3,7 +3,7 @@
 use mathlib.Core.Path.{◌≡◌, refl, ◌∙◌}
 use mathlib.Core.Bool.{true, false}
 use mathlib.Core.List.{List, [], ◌∷◌, ◌++◌}
-use mathlib.Core.Option.{none, some}
+use Rattle.std.specs.Prelude.{None, Some}
 use Prim.Native.Nat.{ℕ, ◌*◌, ◌/◌, ◌%◌, ◌<◌}
 use native.Mathlib.Omega.{arith}
 use lib.Dec.{leb}
@@ -28,13 +28,13 @@ free_asks c h arena o x whole = rw whole
 
 -- so what refuses its owner or its offset refuses it,
 pub block_refuses : (c : Config) (h : State) (arena : List ℕ) (o x : ℕ) → has_recorded_length c arena ≡ true
-    → (why : Refusal) → first_reason (block_order c h o x) ≡ some why → first_reason (free_order true c h arena o x) ≡ some why
+    → (why : Refusal) → first_reason (block_order c h o x) ≡ Some why → first_reason (free_order true c h arena o x) ≡ Some why
 block_refuses c h arena o x whole why e =
     free_asks c h arena o x whole ∙ first_stays (block_order c h o x) (broken_guard c h.blocks arena x ∷ []) why e
 
 -- and where nothing does, the guard decides;
 pub guard_decides : (c : Config) (h : State) (arena : List ℕ) (o x : ℕ) → has_recorded_length c arena ≡ true
-    → first_reason (block_order c h o x) ≡ none → first_reason (free_order true c h arena o x) ≡ first_reason (broken_guard c h.blocks arena x ∷ [])
+    → first_reason (block_order c h o x) ≡ None → first_reason (free_order true c h arena o x) ≡ first_reason (broken_guard c h.blocks arena x ∷ [])
 guard_decides c h arena o x whole e =
     free_asks c h arena o x whole ∙ first_then (block_order c h o x) (broken_guard c h.blocks arena x ∷ []) e
 
@@ -44,7 +44,7 @@ unfolding block_size_order
 size_asks c h o x = refl
 
 -- Where a live block begins none of 15, 16, 17 and 9 applies.
-pub none_of_the_four : (c : Config) (h : State) (x : ℕ) → Kept c h → (b : Segment) → block_at x h.blocks ≡ some b → (rest : Order Refusal)
+pub none_of_the_four : (c : Config) (h : State) (x : ℕ) → Kept c h → (b : Segment) → block_at x h.blocks ≡ Some b → (rest : Order Refusal)
     → first_reason (past_end c x ∷ not_aligned x ∷ free_memory h.blocks x ∷ inside_block h.blocks x ∷ rest) ≡ first_reason rest
 none_of_the_four c h x k b e rest =
     let r : Begins c 0 x h.blocks b = begins c 0 x h.blocks b k.ordered e in
@@ -53,14 +53,14 @@ none_of_the_four c h x k b e rest =
 
 module _ (c : Config) (h : State) (o x : ℕ) (owner : is_owner o ≡ true) where
   -- the first byte of a live block
-  pub first_byte : Kept c h → (b : Segment) → block_at x h.blocks ≡ some b → first_reason (block_order c h o x) ≡ first_reason (other_owner h.blocks o x ∷ [])
+  pub first_byte : Kept c h → (b : Segment) → block_at x h.blocks ≡ Some b → first_reason (block_order c h o x) ≡ first_reason (other_owner h.blocks o x ∷ [])
   first_byte k b e = rw owner (none_of_the_four c h x k b e (other_owner h.blocks o x ∷ []))
 
   -- the first byte of granule i of the arena
   module _ (i : ℕ) (at : x ≡ 16 * i) (in_arena : i < c.granules) where
-    pub free_memory_lem : block_over i h.blocks ≡ none → first_reason (block_order c h o x) ≡ some refusal.FreeMemory
+    pub free_memory_lem : block_over i h.blocks ≡ None → first_reason (block_order c h o x) ≡ Some refusal.FreeMemory
     free_memory_lem e = let z : x / 16 ≡ i = omega arith in rw (owner, lt-leb (16 * c.granules) x (omega arith), eq-eqb (x % 16) 0 (omega arith), z, e)
 
-    pub inside_block_lem : (b : Segment) → block_over i h.blocks ≡ some b → b.start < i → first_reason (block_order c h o x) ≡ some refusal.InsideBlock
+    pub inside_block_lem : (b : Segment) → block_over i h.blocks ≡ Some b → b.start < i → first_reason (block_order c h o x) ≡ Some refusal.InsideBlock
     inside_block_lem b e p =
         let z : x / 16 ≡ i = omega arith in rw (owner, lt-leb (16 * c.granules) x (omega arith), eq-eqb (x % 16) 0 (omega arith), z, e, lt-ltb b.start i p)

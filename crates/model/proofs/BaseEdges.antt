@@ -12,7 +12,7 @@ use Rattle.model.specs.Allocation.{State, block_at}
 use Rattle.model.specs.Arena.{slice}
 use Rattle.model.specs.Orders.{alloc_order, free_order, realloc_order, init_order, totals_order}
 use Rattle.model.specs.Rules.{init, init_config, arena_after_init, alloc, after_alloc, free, arena_after_free, realloc, after_realloc, totals_of}
-use Rattle.model.specs.Numbers.{Numbered, made_numbered, placed_numbered, freed_numbered, resized_numbered, totals_numbered}
+use Rattle.model.specs.Numbers.{Numbered, made_numbered, value_numbered, resized_numbered, totals_numbered}
 use Rattle.model.specs.Bound.{rows_suffice, bound}
 use Rattle.model.specs.declared.Segment.{Segment}
 use Rattle.model.specs.declared.Plan.{Plan}
@@ -411,7 +411,7 @@ holds (making bytes words b q number) =
     (filled bytes 7 (arena_after_init arena table p)))
 holds (request h o n a number x) =
     let after : State = after_alloc (is_valid h) (config h) (state h) [] o n a in
-    both (answers number x (placed_numbered (alloc (is_valid h) (config h) (state h) [] o n a)))
+    both (answers number x (value_numbered (alloc (is_valid h) (config h) (state h) [] o n a)))
     (choose (eqb number 0) (is_live_at (length (state h).blocks + 1) x o n after) (eqb (length after.blocks) (length (state h).blocks)))
 holds (resize t o x n number v) =
     at_each (λ (b : ℕ).
@@ -422,7 +422,7 @@ holds (resize t o x n number v) =
 holds (release o x number k) =
     at_each (λ (b : ℕ).
     let h : Heap = packed b 6 in
-    both (answers number k (freed_numbered (free (is_valid h) (config h) (state h) (replicate 256 7) o x)))
+    both (answers number k (value_numbered (free (is_valid h) (config h) (state h) (replicate 256 7) o x)))
     (cleared (choose (eqb number 0) x 0) k (arena_after_free (is_valid h) (config h) (state h) (replicate 256 7) o x)))
 holds (sums used rest peak longest) =
     at_each (λ (b : ℕ).

@@ -4,7 +4,7 @@ use mathlib.Core.Path.{◌≡◌, refl, sym, ap, ◌∙◌}
 use mathlib.Core.Bool.{Bool, true}
 use mathlib.Core.List.{List, [], ◌∷◌, ◌++◌}
 use mathlib.Core.Logic.{◌↔◌, ◌⊎◌, inl, inr, ⊎_elim}
-use mathlib.Core.Option.{Option}
+use Rattle.std.specs.Prelude.{Option, Ok, Err}
 use Prim.Native.Nat.{ℕ, ◌+◌, ◌*◌, ◌%◌, ◌≤◌, ◌<◌}
 use native.Mathlib.Omega.{arith}
 use native.Mathlib.Nat.{mod-add-mod, dvd_of_mod-eq-zero, mod-mod_of_dvd}
@@ -29,20 +29,18 @@ use Rattle.model.proofs.Served.{alignment_divides}
 use Rattle.model.specs.declared.Segment.{Segment}
 use Rattle.model.specs.declared.Plan.{Plan}
 use Rattle.model.specs.declared.Refusal.{Refusal}
-use Rattle.model.specs.declared.Placed.TheVariants as placed
 use Rattle.model.specs.declared.Resized.TheVariants as resized
 use Rattle.model.specs.declared.InitRefusal.TheVariants as init_refusal
-use Rattle.model.specs.declared.Made.TheVariants as made
 
 -- The address of a block that an allocation is granted, the base plus the offset answered, is on the boundary asked.
-pub alloc_address : (v : Bool) (c : Config) (h : State) (arena : List ℕ) (o n a x : ℕ) → alloc v c h arena o n a ≡ placed.At x → (c.base + x) % a ≡ 0
+pub alloc_address : (v : Bool) (c : Config) (h : State) (arena : List ℕ) (o n a x : ℕ) → alloc v c h arena o n a ≡ Ok x → (c.base + x) % a ≡ 0
 alloc_address v c h arena o n a x e =
     split_option (first_reason (alloc_order v c h arena o n a))
     (λ q. let r : Allocated c h o n a = allocated c h v arena o n a q in
-    let e' : placed.At (16 * r.start) ≡ placed.At x = rw (q, r.fits) at e in
+    let e' : Ok (16 * r.start) ≡ Ok x = rw (q, r.fits) at e in
     let at : 16 * r.start ≡ x = cc in
     rw (← at) (lowest_place c h.blocks (needed c n) a r.start r.lowest).aligned)
-    (λ r q. let e' : placed.Refused r ≡ placed.At x = rw q at e in let z : ◌≡◌ {A = ℕ} 0 1 = cc in absurd (omega arith))
+    (λ r q. let e' : Err r ≡ Ok x = rw q at e in let z : ◌≡◌ {A = ℕ} 0 1 = cc in absurd (omega arith))
 
 -- What a heap is made with, the same but for the base.
 abbrev pub at_base : ℕ → Config → Config
@@ -93,7 +91,7 @@ module _ (c : Config) (b : ℕ) (e : c.base % 4096 ≡ b % 4096) (v : Bool) (h :
 
   -- answers the same,
   pub alloc_alike : alloc v c h arena o n a ≡ alloc v (at_base b c) h arena o n a
-  alloc_alike = allocates (λ f. placed.At (given f 0 offset)) placed.Refused
+  alloc_alike = allocates (λ f. Ok (given f 0 offset)) Err
 
   -- leaves the same state,
   pub after_alloc_alike : after_alloc v c h arena o n a ≡ after_alloc v (at_base b c) h arena o n a
@@ -179,7 +177,7 @@ module _ (c : Config) (b : ℕ) (e : c.base % 16 ≡ b % 16) where
 
     -- answers the same,
     pub realloc_alike : realloc v c h arena o x n ≡ realloc v (at_base b c) h arena o x n
-    realloc_alike = resizes (λ f. given f (resized.Freed (bytes_at h x)) (λ d. resized.At (offset d))) resized.Refused
+    realloc_alike = resizes (λ f. given f (Ok (resized.Freed (bytes_at h x))) (λ d. Ok (resized.At (offset d)))) Err
 
     -- leaves the same state,
     pub after_realloc_alike : after_realloc v c h arena o x n ≡ after_realloc v (at_base b c) h arena o x n
@@ -200,7 +198,7 @@ module _ (c : Config) (b : ℕ) (e : c.base % 16 ≡ b % 16) where
 
 -- Of an arena whose length is allowed a making is refused with 18 exactly if the base is not a multiple of 16 or the arena ends past 4,294,967,296.
 pub eighteen_exactly : (arena words : List ℕ) (p : Plan) → is_arena (length arena) ≡ true
-    → (init arena words p ≡ made.Refused init_refusal.BadBase) ↔ ((¬ (p.base % 16 ≡ 0)) ⊎ (4294967296 < p.base + length arena))
+    → (init arena words p ≡ Err init_refusal.BadBase) ↔ ((¬ (p.base % 16 ≡ 0)) ⊎ (4294967296 < p.base + length arena))
 unfolding init_order
 eighteen_exactly arena words p allowed = (
   λ e. split (eqb (p.base % 16) 0)
@@ -213,9 +211,9 @@ eighteen_exactly arena words p allowed = (
 )
   where
     -- no later reason is 18
-    later : unless (bad_table words ∷ bad_quota p ∷ []) made.Done made.Refused ≡ made.Refused init_refusal.BadBase → ⊥
+    later : unless (bad_table words ∷ bad_quota p ∷ []) (Ok (tt {0})) Err ≡ Err init_refusal.BadBase → ⊥
     later e =
-        let z : (made_numbered (unless (bad_table words ∷ bad_quota p ∷ []) made.Done made.Refused)).0 ≡ 18 = ap (λ m. (made_numbered m).0) e in
+        let z : (made_numbered (unless (bad_table words ∷ bad_quota p ∷ []) (Ok (tt {0})) Err)).0 ≡ 18 = ap (λ m. (made_numbered m).0) e in
         split (is_table (length words))
         (λ t. split (quotas_in_range p.granule_quotas p.block_quotas) (λ u. omega (arith, rw (t, u) at z)) (λ u. omega (arith, rw (t, u) at z)))
         (λ t. omega (arith, rw t at z))
@@ -249,11 +247,11 @@ unfolding init_order
 init_alike arena words p b e = rw e
 
 -- A making that is not refused is not refused with base 0 either.
-pub with_base_0 : (arena words : List ℕ) (p : Plan) → init arena words p ≡ made.Done → init arena words (plan_at 0 p) ≡ made.Done
+pub with_base_0 : (arena words : List ℕ) (p : Plan) → init arena words p ≡ Ok tt → init arena words (plan_at 0 p) ≡ Ok tt
 unfolding init_order
 with_base_0 arena words p done =
     split_option (first_reason (init_order arena words p))
     (λ q. let r : NoReason (init_order arena words p) = no_reason (init_order arena words p) q in
     let zero : is_base (length arena) 0 ≡ true = zero_base (length arena) (not-false (is_arena (length arena)) r.0) in
     rw (reason_none (init_order arena words (plan_at 0 p)) (r.0, (rw zero, r.1.1))))
-    (λ r q. let e : made.Refused r ≡ made.Done = rw q at done in let z : ◌≡◌ {A = ℕ} 0 1 = cc in absurd (omega arith))
+    (λ r q. let e : Err r ≡ Ok tt = rw q at done in let z : ◌≡◌ {A = ℕ} 0 1 = cc in absurd (omega arith))

@@ -3,7 +3,7 @@
 use mathlib.Core.Path.{◌≡◌, refl, sym, ap, ◌∙◌, subst}
 use mathlib.Core.Bool.{Bool, true, false, not}
 use mathlib.Core.List.{List, [], ◌∷◌, map, map-append}
-use mathlib.Core.Option.{none, some}
+use Rattle.std.specs.Prelude.{None, Some}
 use Prim.Native.Nat.{ℕ, ◌+◌, ◌/◌, ◌≤◌, ◌<◌}
 use native.Mathlib.Omega.{arith}
 use lib.Dec.{ltb, eqb}
@@ -40,7 +40,7 @@ without_insert x d (b ∷ bs) e =
     (λ p. rw (p, q) (ap (λ (r : List Segment). b ∷ r) (without_insert x d bs e)))))
 
 -- it is the block at x
-at_insert : (x : ℕ) (d : Segment) (bs : List Segment) → offset d ≡ x → block_at x (insert d (without x bs)) ≡ some d
+at_insert : (x : ℕ) (d : Segment) (bs : List Segment) → offset d ≡ x → block_at x (insert d (without x bs)) ≡ Some d
 at_insert x d [] e = rw (eq-eqb (offset d) x e)
 at_insert x d (b ∷ bs) e =
     split (eqb (offset b) x)
@@ -54,16 +54,16 @@ module _ (c : Config) where
   insert_first d s (b ∷ bs) h o = rw (lt-ltb d.start b.start (omega arith))
 
   -- The block at x, taken out and put back, leaves the blocks as they were.
-  insert_without : (s x : ℕ) (bs : List Segment) (b : Segment) → Ordered c s bs → block_at x bs ≡ some b → insert b (without x bs) ≡ bs
+  insert_without : (s x : ℕ) (bs : List Segment) (b : Segment) → Ordered c s bs → block_at x bs ≡ Some b → insert b (without x bs) ≡ bs
   insert_without s x [] b o e = let w : ◌≡◌ {A = ℕ} 0 1 = cc in absurd (omega arith)
   insert_without s x (d ∷ bs) b o e =
       split (eqb (offset d) x)
-      (λ q. let e' : some d ≡ some b = rw q at e in
+      (λ q. let e' : Some d ≡ Some b = rw q at e in
       let z : d ≡ b = cc in
       let l : 1 ≤ d.length = long c d o.1 in
       rw (q, without_later c (d.start + d.length) x bs (omega tests) o.2)
       (subst (λ (k : Segment). insert k bs ≡ d ∷ bs) z (insert_first d (d.start + d.length) bs (omega arith) o.2)))
-      (λ q. let e' : block_at x bs ≡ some b = rw q at e in
+      (λ q. let e' : block_at x bs ≡ Some b = rw q at e in
       let r : Begins c (d.start + d.length) x bs b = begins c (d.start + d.length) x bs b o.2 e' in
       rw (q, le-ltb b.start d.start (omega (arith, r.from))) (ap (λ (r : List Segment). d ∷ r) (insert_without (d.start + d.length) x bs b o.2 e')))
 
@@ -85,8 +85,8 @@ shape_requesting e m s b (x ∷ xs) =
 
 -- After a resize to n bytes in which the block `old` at x stays, a resize to m bytes, which need the old length, that finds the guard whole:
 module _ (v : Bool) (c : Config) (h : State) (k : Kept c h) (arena : List ℕ) (o x n : ℕ) (hn : 1 ≤ n)
-    (e : first_reason (realloc_order v c h arena o x n) ≡ none)
-    (old : Segment) (was : block_at x h.blocks ≡ some old) (st : stays c h.blocks x n ≡ true)
+    (e : first_reason (realloc_order v c h arena o x n) ≡ None)
+    (old : Segment) (was : block_at x h.blocks ≡ Some old) (st : stays c h.blocks x n ≡ true)
     (h' : State) (is : h' ≡ after_realloc v c h arena o x n)
     (m : ℕ) (hm : 1 ≤ m) (fits : needed c m ≡ old.length) (arena' : List ℕ) (whole : has_recorded_length c arena' ≡ true)
     (unbroken : is_broken c arena' (block c o n (x / 16)) ≡ false) where
@@ -102,7 +102,7 @@ module _ (v : Bool) (c : Config) (h : State) (k : Kept c h) (arena : List ℕ) (
   mine : old.owner ≡ o
   mine = subst (λ (b : Segment). b.owner ≡ o) (same free.block old (sym free.found ∙ was)) free.owned
     where
-      same : (b d : Segment) → some b ≡ some d → b ≡ d
+      same : (b d : Segment) → Some b ≡ Some d → b ≡ d
       same b d e = cc
 
   put_back : insert old (without x h.blocks) ≡ h.blocks
@@ -127,11 +127,11 @@ module _ (v : Bool) (c : Config) (h : State) (k : Kept c h) (arena : List ℕ) (
   others : without x h'.blocks ≡ without x h.blocks
   others = rw between (without_insert x now h.blocks (omega (arith, begun.first)))
 
-  there : block_at x h'.blocks ≡ some now
+  there : block_at x h'.blocks ≡ Some now
   there = rw between (at_insert x now h.blocks (omega (arith, begun.first)))
 
   -- none of a free's reasons applies, nor 6, nor 8
-  free_granted : first_reason (free_order true c h' arena' o x) ≡ none
+  free_granted : first_reason (free_order true c h' arena' o x) ≡ None
   free_granted =
       guard_decides c h' arena' o x whole
       (first_byte c h' o x free.owner (subst (Kept c) (sym is) (keep_realloc c h k v arena o x n)) now there ∙ rw (there, eq-eqb o o refl))
@@ -149,11 +149,11 @@ module _ (v : Bool) (c : Config) (h : State) (k : Kept c h) (arena : List ℕ) (
   back_stays = rw others (same_stays c h.blocks k.ordered x old was m fits)
 
   -- where the old one was,
-  pub back_refits : refit c h'.blocks o x m ≡ some (block c o m old.start)
+  pub back_refits : refit c h'.blocks o x m ≡ Some (block c o m old.start)
   back_refits = rw (back_stays, start_is)
 
   -- is not refused,
-  pub back_granted : first_reason (realloc_order true c h' arena' o x m) ≡ none
+  pub back_granted : first_reason (realloc_order true c h' arena' o x m) ≡ None
   back_granted =
       size_decides true c h' arena' o x m hm free_granted
       ∙ reason_none (new_length_order c h' o x m)

@@ -11,7 +11,7 @@ use Rattle.model.specs.Allocation.{State, needed, granules_of}
 use Rattle.model.specs.SegmentMap.{map_of}
 use Rattle.model.specs.Orders.{first_reason, alloc_order, free_order, realloc_order, block_size_order, init_order, totals_order, holding_order, proper_order}
 use Rattle.model.specs.Rules.{init, init_config, arena_after_init, alloc, after_alloc, granted_alloc, arena_after_alloc, free, after_free, returned_free, arena_after_free, realloc, after_realloc, granted_realloc, returned_realloc, arena_after_realloc, block_size, totals_of, holding_of}
-use Rattle.model.specs.Numbers.{Numbered, number_of, made_numbered, placed_numbered, freed_numbered, resized_numbered, size_numbered, totals_numbered, holding_numbered}
+use Rattle.model.specs.Numbers.{Numbered, number_of, made_numbered, value_numbered, resized_numbered, size_numbered, totals_numbered, holding_numbered}
 use Rattle.model.specs.Bound.{rows_suffice, bound}
 use Rattle.model.specs.declared.Segment.{Segment}
 use Rattle.model.specs.declared.Plan.{Plan}
@@ -553,7 +553,7 @@ allocated h v o n a =
     let s : State = state h in
     let bytes : List ℕ = arena_of h in
     record {
-      numbered = placed_numbered (alloc v c s bytes o n a);
+      numbered = value_numbered (alloc v c s bytes o n a);
       rows = map_of c (after_alloc v c s bytes o n a).blocks;
       peak = (after_alloc v c s bytes o n a).peak;
       granted = granted_alloc v c s bytes o n a;
@@ -568,7 +568,7 @@ freed h v o x =
     let s : State = state h in
     let bytes : List ℕ = arena_of h in
     record {
-      numbered = freed_numbered (free v c s bytes o x);
+      numbered = value_numbered (free v c s bytes o x);
       rows = map_of c (after_free v c s bytes o x).blocks;
       peak = (after_free v c s bytes o x).peak;
       granted = 0;
@@ -637,11 +637,11 @@ walk c m [] = ([], m)
 walk c m (ask o n a number v ∷ ks) =
     let s : State = m.state in
     let rest : List Numbered × Moment = walk c (record { state = after_alloc true c s m.arena o n a; arena = arena_after_alloc true c s m.arena o n a }) ks in
-    (placed_numbered (alloc true c s m.arena o n a) ∷ rest.0, rest.1)
+    (value_numbered (alloc true c s m.arena o n a) ∷ rest.0, rest.1)
 walk c m (back o x number v ∷ ks) =
     let s : State = m.state in
     let rest : List Numbered × Moment = walk c (record { state = after_free true c s m.arena o x; arena = arena_after_free true c s m.arena o x }) ks in
-    (freed_numbered (free true c s m.arena o x) ∷ rest.0, rest.1)
+    (value_numbered (free true c s m.arena o x) ∷ rest.0, rest.1)
 walk c m (again o x n number v ∷ ks) =
     let s : State = m.state in
     let rest : List Numbered × Moment = walk c (record { state = after_realloc true c s m.arena o x n; arena = arena_after_realloc true c s m.arena o x n }) ks in

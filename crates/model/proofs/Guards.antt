@@ -3,7 +3,7 @@
 use mathlib.Core.Path.{◌≡◌, refl, sym, ap, ◌∙◌, subst}
 use mathlib.Core.Bool.{Bool, true, false}
 use mathlib.Core.List.{List, [], ◌∷◌, ◌++◌, append-nil}
-use mathlib.Core.Option.{none, some}
+use Rattle.std.specs.Prelude.{None, Some}
 use Prim.Native.Nat.{ℕ, zero, suc, ◌+◌, ◌-◌, ◌*◌, ◌≤◌, ◌<◌}
 use native.Mathlib.Omega.{arith}
 use native.Mathlib.Nat.{add-zero}
@@ -164,8 +164,8 @@ same_guard c b arena arena' alike fits fits' =
     (λ p. p ∙ sym (still_whole c b arena arena' alike fits p))
 
 -- An allocation that is not refused, of the block b:
-module _ (v : Bool) (c : Config) (h : State) (arena : List ℕ) (o n a : ℕ) (e : first_reason (alloc_order v c h arena o n a) ≡ none)
-    (b : Segment) (is : fit c h.blocks o n a ≡ some b) where
+module _ (v : Bool) (c : Config) (h : State) (arena : List ℕ) (o n a : ℕ) (e : first_reason (alloc_order v c h arena o n a) ≡ None)
+    (b : Segment) (is : fit c h.blocks o n a ≡ Some b) where
   after : arena_after_alloc v c h arena o n a ≡ with_guard c b arena
   after = rw (e, is)
 
@@ -173,7 +173,7 @@ module _ (v : Bool) (c : Config) (h : State) (arena : List ℕ) (o n a : ℕ) (e
   lies : 1 ≤ c.guards → guard_offset b + guard_bytes c ≤ length arena
   lies g =
       let r : Allocated c h o n a = allocated c h v arena o n a e in
-      let z : some (block c o n r.start) ≡ some b = sym r.fits ∙ is in
+      let z : Some (block c o n r.start) ≡ Some b = sym r.fits ∙ is in
       let y : block c o n r.start ≡ b = cc in
       subst (λ (d : Segment). guard_offset d + guard_bytes c ≤ length arena) y
       (omega (arith, allocated_whole c h v arena o n a e g, (lowest_place c h.blocks (needed c n) a r.start r.lowest).inside))

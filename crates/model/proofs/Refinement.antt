@@ -3,7 +3,7 @@
 use mathlib.Core.Path.{◌≡◌, refl, sym, ◌∙◌}
 use mathlib.Core.Bool.{Bool, true, false}
 use mathlib.Core.List.{List, [], ◌∷◌, ◌++◌}
-use mathlib.Core.Option.{none, some}
+use Rattle.std.specs.Prelude.{None, Some}
 use Prim.Native.Nat.{ℕ, ◌*◌, ◌/◌, ◌%◌}
 use lib.Dec.{leb, eqb}
 use borrow.Author.Tests.{not-false, lt-ltb}
@@ -68,7 +68,7 @@ pub record Refines (before now : Order Refusal) : Type 1 where
 
 module _ (before now : Order Refusal) where
   -- refused by 9 before, and by one of the four now
-  refines_nine : (r : Refusal) → is_of_the_four (number_of r) ≡ true → first_reason before ≡ some refusal.InsideBlock → first_reason now ≡ some r → Refines before now
+  refines_nine : (r : Refusal) → is_of_the_four (number_of r) ≡ true → first_reason before ≡ Some refusal.InsideBlock → first_reason now ≡ Some r → Refines before now
   refines_nine r f p q = record { nine = rw (p, q) f; others = λ e. absurd (clash (is_of_the_four (number_of r)) f (rw q at e)); effects = λ a b. rw (p, q) }
 
   -- refused now as before, by 9 or by none of the four
@@ -87,7 +87,7 @@ refines_then : (before now rest : Order Refusal) → is_of_the_four (refusal_num
 refines_then before now rest f a =
     split_option (first_reason before)
     (λ p. let four : is_of_the_four (refusal_number now) ≡ false = a.nine ∙ rw p in
-    let q : first_reason now ≡ none = a.others four ∙ p in
+    let q : first_reason now ≡ None = a.others four ∙ p in
     refines_same (before ++ rest) (now ++ rest) (first_then now rest q ∙ sym (first_then before rest p)) (rw (first_then before rest p) f))
     (λ r p. split_option (first_reason now)
     (λ q. let w : true ≡ false = rw (p, q) at (a.effects true false) in absurd (clash true refl w))
@@ -124,7 +124,7 @@ module _ (c : Config) (h : State) (o x : ℕ) where
   now = offset_order c h o x
 
   -- no block begins at x
-  none_there : block_at x h.blocks ≡ none → Refines before now
+  none_there : block_at x h.blocks ≡ None → Refines before now
   none_there e =
       split (leb (16 * c.granules) x)
       (λ p. refines_nine before now refusal.PastEnd refl (rw e) (rw p))
@@ -135,7 +135,7 @@ module _ (c : Config) (h : State) (o x : ℕ) where
       (λ q. refines_nine before now refusal.NotAligned refl (rw e) (rw (p, q))))
 
   -- a block does
-  one_there : Kept c h → (b : Segment) → block_at x h.blocks ≡ some b → Refines before now
+  one_there : Kept c h → (b : Segment) → block_at x h.blocks ≡ Some b → Refines before now
   one_there k b e =
       refines_same before now (none_of_the_four c h x k b e (other_owner h.blocks o x ∷ []) ∙ rw e) (split (eqb b.owner o) (λ q. rw (e, q)) (λ q. rw (e, q)))
 

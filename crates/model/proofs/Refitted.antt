@@ -3,7 +3,7 @@
 use mathlib.Core.Path.{◌≡◌, refl, sym, ap, ◌∙◌, subst}
 use mathlib.Core.Bool.{Bool, true, false, not}
 use mathlib.Core.List.{List, [], ◌++◌}
-use mathlib.Core.Option.{none, some}
+use Rattle.std.specs.Prelude.{None, Some}
 use Prim.Native.Nat.{ℕ, ◌+◌, ◌/◌, ◌≤◌}
 use native.Mathlib.Omega.{arith}
 use lib.Dec.{ltb, eqb}
@@ -24,7 +24,7 @@ module _ (c : Config) (h : State) (o x n : ℕ) where
   -- where a accepted block is
   pub record Refit : Type 0 where
     pub start : ℕ
-    pub fits : refit c h.blocks o x n ≡ some (block c o n start)
+    pub fits : refit c h.blocks o x n ≡ Some (block c o n start)
     pub inside : start + needed c n ≤ c.granules
     pub clear : every (clear_of start (needed c n)) (without x h.blocks) ≡ true
 
@@ -44,7 +44,7 @@ module _ (c : Config) (h : State) (o x n : ℕ) where
       }))
 
   -- and the block that is left has it.
-  pub refitted_at : (s : ℕ) → refit c h.blocks o x n ≡ some (block c o n s)
+  pub refitted_at : (s : ℕ) → refit c h.blocks o x n ≡ Some (block c o n s)
       → (s + needed c n ≤ c.granules) × (every (clear_of s (needed c n)) (without x h.blocks) ≡ true)
   refitted_at s e =
       let r : Refit = refitted (rw e) in
@@ -52,27 +52,27 @@ module _ (c : Config) (h : State) (o x n : ℕ) where
       subst (λ (b : Segment). (b.start + needed c n ≤ c.granules) × (every (clear_of b.start (needed c n)) (without x h.blocks) ≡ true)) z (r.inside, r.clear)
 
 -- A resize that leaves a block is not to size 0,
-pub resize_size : (c : Config) (bs : List Segment) (o x n : ℕ) (b : Segment) → resize c bs o x n ≡ some b → 1 ≤ n
+pub resize_size : (c : Config) (bs : List Segment) (o x n : ℕ) (b : Segment) → resize c bs o x n ≡ Some b → 1 ≤ n
 resize_size c bs o x n b e =
-    split (eqb n 0) (λ q. let z : none ≡ some b = rw q at e in let w : ◌≡◌ {A = ℕ} 0 1 = cc in absurd (omega arith)) (λ q. omega tests)
+    split (eqb n 0) (λ q. let z : None ≡ Some b = rw q at e in let w : ◌≡◌ {A = ℕ} 0 1 = cc in absurd (omega arith)) (λ q. omega tests)
 
 -- and that block is the owner's of n bytes at some start,
-resize_block : (c : Config) (bs : List Segment) (o x n : ℕ) (b : Segment) → resize c bs o x n ≡ some b → (s : ℕ) × (block c o n s ≡ b)
+resize_block : (c : Config) (bs : List Segment) (o x n : ℕ) (b : Segment) → resize c bs o x n ≡ Some b → (s : ℕ) × (block c o n s ≡ b)
 resize_block c bs o x n b e =
     split (eqb n 0)
-    (λ q. let z : none ≡ some b = rw q at e in let w : ◌≡◌ {A = ℕ} 0 1 = cc in absurd (omega arith))
+    (λ q. let z : None ≡ Some b = rw q at e in let w : ◌≡◌ {A = ℕ} 0 1 = cc in absurd (omega arith))
     (λ q. split (stays c bs x n)
-    (λ t. let z : some (block c o n (x / 16)) ≡ some b = rw (q, t) at e in let y : block c o n (x / 16) ≡ b = cc in (x / 16, y))
+    (λ t. let z : Some (block c o n (x / 16)) ≡ Some b = rw (q, t) at e in let y : block c o n (x / 16) ≡ b = cc in (x / 16, y))
     (λ t. split_option (lowest_start c bs (needed c n) 16)
-    (λ p. let z : none ≡ some b = rw (q, t, p) at e in let w : ◌≡◌ {A = ℕ} 0 1 = cc in absurd (omega arith))
-    (λ s p. let z : some (block c o n s) ≡ some b = rw (q, t, p) at e in let y : block c o n s ≡ b = cc in (s, y))))
+    (λ p. let z : None ≡ Some b = rw (q, t, p) at e in let w : ◌≡◌ {A = ℕ} 0 1 = cc in absurd (omega arith))
+    (λ s p. let z : Some (block c o n s) ≡ Some b = rw (q, t, p) at e in let y : block c o n s ≡ b = cc in (s, y))))
 
 -- so it is as long as its bytes need,
-pub resize_length : (c : Config) (bs : List Segment) (o x n : ℕ) (b : Segment) → resize c bs o x n ≡ some b → b.length ≡ needed c n
+pub resize_length : (c : Config) (bs : List Segment) (o x n : ℕ) (b : Segment) → resize c bs o x n ≡ Some b → b.length ≡ needed c n
 resize_length c bs o x n b e = ap (λ (d : Segment). d.length) (sym (resize_block c bs o x n b e).1)
 
 -- and has n bytes requested.
-pub resize_requested : (c : Config) (bs : List Segment) (o x n : ℕ) (b : Segment) → resize c bs o x n ≡ some b → b.requested ≡ n
+pub resize_requested : (c : Config) (bs : List Segment) (o x n : ℕ) (b : Segment) → resize c bs o x n ≡ Some b → b.requested ≡ n
 resize_requested c bs o x n b e = ap (λ (d : Segment). d.requested) (sym (resize_block c bs o x n b e).1)
 
 module _ (v : Bool) (c : Config) (h : State) (arena : List ℕ) (o x n : ℕ) where
@@ -81,19 +81,19 @@ module _ (v : Bool) (c : Config) (h : State) (arena : List ℕ) (o x n : ℕ) wh
   rest = choose (eqb n 0) [] (new_length_order c h o x n)
 
   -- What does not refuse a resize does not refuse the free,
-  pub free_first_lem : first_reason (realloc_order v c h arena o x n) ≡ none → first_reason (free_order v c h arena o x) ≡ none
+  pub free_first_lem : first_reason (realloc_order v c h arena o x n) ≡ None → first_reason (free_order v c h arena o x) ≡ None
   unfolding realloc_order
   free_first_lem e =
       let f : Order Refusal = free_order v c h arena o x in
       reason_none f (no_first f rest (no_reason (f ++ rest) e))
 
   -- what refuses the free refuses it,
-  pub free_refuses : (why : Refusal) → first_reason (free_order v c h arena o x) ≡ some why → first_reason (realloc_order v c h arena o x n) ≡ some why
+  pub free_refuses : (why : Refusal) → first_reason (free_order v c h arena o x) ≡ Some why → first_reason (realloc_order v c h arena o x n) ≡ Some why
   unfolding realloc_order
   free_refuses why e = first_stays (free_order v c h arena o x) rest why e
 
   -- and where nothing does, the new size decides.
-  pub size_decides : 1 ≤ n → first_reason (free_order v c h arena o x) ≡ none → first_reason (realloc_order v c h arena o x n) ≡ first_reason (new_length_order c h o x n)
+  pub size_decides : 1 ≤ n → first_reason (free_order v c h arena o x) ≡ None → first_reason (realloc_order v c h arena o x n) ≡ first_reason (new_length_order c h o x n)
   unfolding realloc_order
   size_decides hn e = first_then (free_order v c h arena o x) rest e ∙ rw (ne_eqb n 0 (omega arith))
 
@@ -105,9 +105,9 @@ module _ (v : Bool) (c : Config) (h : State) (arena : List ℕ) (o x n : ℕ) wh
     pub rows : rows_of c (insert (block c o n place.start) (without x h.blocks)) ≤ c.capacity
 
   -- What such a resize has.
-  pub accepted : 1 ≤ n → first_reason (realloc_order v c h arena o x n) ≡ none → Accepted
+  pub accepted : 1 ≤ n → first_reason (realloc_order v c h arena o x n) ≡ None → Accepted
   accepted hn e =
-      let f : first_reason (free_order v c h arena o x) ≡ none = free_first_lem e in
+      let f : first_reason (free_order v c h arena o x) ≡ None = free_first_lem e in
       let r : NoReason (new_length_order c h o x n) = no_reason (new_length_order c h o x n) (sym (size_decides hn f) ∙ e) in
       let p : Refit c h o x n = refitted c h o x n r.1.0 in
       let t : ltb c.capacity (rows_of c (insert (block c o n p.start) (without x h.blocks))) ≡ false = rw p.fits at r.1.1.0 in

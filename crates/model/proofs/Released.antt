@@ -3,7 +3,7 @@
 use mathlib.Core.Path.{◌≡◌, refl, sym}
 use mathlib.Core.Bool.{Bool, true, false}
 use mathlib.Core.List.{List}
-use mathlib.Core.Option.{none, some}
+use Rattle.std.specs.Prelude.{None, Some, Ok, Err}
 use Prim.Native.Nat.{ℕ, ◌/◌, ◌%◌}
 use native.Mathlib.Omega.{arith}
 use lib.Dec.{ltb, eqb}
@@ -17,7 +17,6 @@ use Rattle.model.proofs.Choosing.{split_option, clash, tests}
 use Rattle.model.proofs.Refusing.{NoReason, no_reason}
 use Rattle.model.proofs.Offsets.{over_inside}
 use Rattle.model.specs.declared.Segment.{Segment}
-use Rattle.model.specs.declared.Freed.TheVariants as freed
 
 module _ (v : Bool) (c : Config) (h : State) (arena : List ℕ) (o x : ℕ) where
   pub record Released : Type 0 where
@@ -25,11 +24,11 @@ module _ (v : Bool) (c : Config) (h : State) (arena : List ℕ) (o x : ℕ) wher
     pub whole : has_recorded_length c arena ≡ true
     pub owner : is_owner o ≡ true
     pub block : Segment
-    pub found : block_at x h.blocks ≡ some block
+    pub found : block_at x h.blocks ≡ Some block
     pub owned : block.owner ≡ o
     pub unbroken : is_broken c arena block ≡ false
 
-  pub released : first_reason (free_order v c h arena o x) ≡ none → Released
+  pub released : first_reason (free_order v c h arena o x) ≡ None → Released
   unfolding free_order
   released e =
       let r : NoReason (free_order v c h arena o x) = no_reason (free_order v c h arena o x) e in
@@ -50,10 +49,10 @@ module _ (v : Bool) (c : Config) (h : State) (arena : List ℕ) (o x : ℕ) wher
       })
 
   -- It answers the bytes that its block holds.
-  pub answered : (k : ℕ) → free v c h arena o x ≡ freed.Bytes k → (r : Released) × (first_reason (free_order v c h arena o x) ≡ none) × (k ≡ bytes r.block)
+  pub answered : (k : ℕ) → free v c h arena o x ≡ Ok k → (r : Released) × (first_reason (free_order v c h arena o x) ≡ None) × (k ≡ bytes r.block)
   answered k e =
       split_option (first_reason (free_order v c h arena o x))
       (λ q. let r : Released = released q in
-      let e' : freed.Bytes (bytes r.block) ≡ freed.Bytes k = rw (q, r.found) at e in
+      let e' : Ok (bytes r.block) ≡ Ok k = rw (q, r.found) at e in
       let z : bytes r.block ≡ k = cc in (r, q, sym z))
-      (λ t q. let e' : freed.Refused t ≡ freed.Bytes k = rw q at e in let w : ◌≡◌ {A = ℕ} 0 1 = cc in absurd (omega arith))
+      (λ t q. let e' : Err t ≡ Ok k = rw q at e in let w : ◌≡◌ {A = ℕ} 0 1 = cc in absurd (omega arith))

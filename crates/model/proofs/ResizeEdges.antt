@@ -1,5 +1,6 @@
 -- Both sides of each edge of document 02's second request, on four small heaps: two tables that compute.
 -- Assumes nothing.
+use Rattle.std.specs.Prelude.{Ok}
 use mathlib.Core.Path.{◌≡◌, refl}
 use mathlib.Core.Bool.{Bool, true, false}
 use mathlib.Core.List.{List, [], ◌∷◌, ◌++◌, map}
@@ -199,7 +200,7 @@ unfolding realloc_order free_order
 each_refused = refl
 
 -- A return is answered as one, and a resize to another size is not.
-pub kinds : (realloc true (config (long 5 9)) (state (long 5 9)) (was 0 192) 2 64 0 ≡ resized.Freed 32)
-    × (realloc true (config (long 5 9)) (state (long 5 9)) (was 0 192) 2 64 32 ≡ resized.At 64)
+pub kinds : (realloc true (config (long 5 9)) (state (long 5 9)) (was 0 192) 2 64 0 ≡ Ok (resized.Freed 32))
+    × (realloc true (config (long 5 9)) (state (long 5 9)) (was 0 192) 2 64 32 ≡ Ok (resized.At 64))
 unfolding realloc_order free_order
 kinds = (refl, refl)

@@ -3,7 +3,7 @@
 use mathlib.Core.Path.{◌≡◌, sym, ap, ◌∙◌}
 use mathlib.Core.Bool.{Bool, true, false}
 use mathlib.Core.List.{List}
-use mathlib.Core.Option.{none, some}
+use Rattle.std.specs.Prelude.{None, Some}
 use Prim.Native.Nat.{ℕ, ◌+◌, ◌*◌, ◌/◌, ◌≤◌, ◌<◌, min}
 use native.Mathlib.Omega.{arith}
 use lib.Dec.{leb, ltb}
@@ -27,8 +27,8 @@ use Rattle.model.specs.declared.Segment.{Segment}
 
 -- A resize of the block `old` at x to n bytes, not refused, leaves the block `new`.
 module _ (v : Bool) (c : Config) (h : State) (k : Kept c h) (arena : List ℕ) (o x n : ℕ)
-    (e : first_reason (realloc_order v c h arena o x n) ≡ none)
-    (old new : Segment) (was : block_at x h.blocks ≡ some old) (left : resize c h.blocks o x n ≡ some new) where
+    (e : first_reason (realloc_order v c h arena o x n) ≡ None)
+    (old new : Segment) (was : block_at x h.blocks ≡ Some old) (left : resize c h.blocks o x n ≡ Some new) where
   -- where both blocks lie, and how long they are
   record Lies : Type 0 where
     first : offset old ≡ x
@@ -44,7 +44,7 @@ module _ (v : Bool) (c : Config) (h : State) (k : Kept c h) (arena : List ℕ) (
   lies =
       let hn : 1 ≤ n = resize_size c h.blocks o x n new left in
       let r : Accepted v c h arena o x n = accepted v c h arena o x n hn e in
-      let z : some (block c o n r.place.start) ≡ some new = rw (ne_eqb n 0 (omega arith), r.place.fits) at left in
+      let z : Some (block c o n r.place.start) ≡ Some new = rw (ne_eqb n 0 (omega arith), r.place.fits) at left in
       let y : block c o n r.place.start ≡ new = cc in
       let s : r.place.start ≡ new.start = ap (λ (d : Segment). d.start) y in
       let w : new.requested ≡ n = resize_requested c h.blocks o x n new left in

@@ -3,7 +3,7 @@
 use mathlib.Core.Path.{◌≡◌, refl}
 use mathlib.Core.Bool.{Bool, true}
 use mathlib.Core.List.{List}
-use mathlib.Core.Option.{some}
+use Rattle.std.specs.Prelude.{Some}
 use Prim.Native.Nat.{ℕ, ◌+◌, ◌≤◌, max}
 use native.Mathlib.Omega.{arith}
 use lib.Dec.{eqb}
@@ -25,12 +25,12 @@ module _ (c : Config) (h : State) (k : Kept c h) where
   left x = total_without c (λ (b : Segment). b.length) 0 x h.blocks k.ordered
 
   -- A block in place of the one at x: what both hold is exchanged.
-  pub exchanged : (o x n s : ℕ) (b : Segment) → block_at x h.blocks ≡ some b
+  pub exchanged : (o x n s : ℕ) (b : Segment) → block_at x h.blocks ≡ Some b
       → granules_of (insert (block c o n s) (without x h.blocks)) + b.length ≡ needed c n + granules_of h.blocks
   exchanged o x n s b e = omega (arith, rw e at (left x), total_insert (λ (b : Segment). b.length) (block c o n s) (without x h.blocks))
 
   -- What an owner has without its block at x is less by what that block counts.
-  pub owner_without : (f : Segment → ℕ) (o x : ℕ) (b : Segment) → block_at x h.blocks ≡ some b → b.owner ≡ o
+  pub owner_without : (f : Segment → ℕ) (o x : ℕ) (b : Segment) → block_at x h.blocks ≡ Some b → b.owner ≡ o
       → total f (owned_by o (without x h.blocks)) + f b ≡ total f (owned_by o h.blocks)
   owner_without f o x b e q =
       let own : Segment → Bool = λ (b : Segment). eqb b.owner o in

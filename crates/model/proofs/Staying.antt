@@ -3,7 +3,7 @@
 use mathlib.Core.Path.{◌≡◌, refl, sym, ap, subst}
 use mathlib.Core.Bool.{true, false, not}
 use mathlib.Core.List.{List, [], ◌∷◌}
-use mathlib.Core.Option.{none, some}
+use Rattle.std.specs.Prelude.{None, Some}
 use Prim.Native.Nat.{ℕ, ◌+◌, ◌-◌, ◌*◌, ◌/◌, ◌≤◌, ◌<◌}
 use native.Mathlib.Omega.{arith}
 use lib.Dec.{leb, eqb}
@@ -18,8 +18,8 @@ use Rattle.model.proofs.Offsets.{Begins, begins}
 use Rattle.model.specs.declared.Segment.{Segment}
 
 -- the block at x is the first, if that begins there
-at_head : (x : ℕ) (d b : Segment) (bs : List Segment) → eqb (offset d) x ≡ true → block_at x (d ∷ bs) ≡ some b → d ≡ b
-at_head x d b bs q e = let e' : some d ≡ some b = rw q at e in cc
+at_head : (x : ℕ) (d b : Segment) (bs : List Segment) → eqb (offset d) x ≡ true → block_at x (d ∷ bs) ≡ Some b → d ≡ b
+at_head x d b bs q e = let e' : Some d ≡ Some b = rw q at e in cc
 
 module _ (c : Config) where
   -- No block is taken out where all begin past x.
@@ -29,7 +29,7 @@ module _ (c : Config) where
       rw (ne_eqb (offset b) x (omega arith)) (ap (λ (r : List Segment). b ∷ r) (without_later (b.start + b.length) x bs (omega arith) o.2))
 
   -- a run at the start of the block at x, and no longer, is clear of the other blocks
-  own_clear : (g s x : ℕ) (bs : List Segment) (b : Segment) → Ordered c s bs → block_at x bs ≡ some b → g ≤ b.length
+  own_clear : (g s x : ℕ) (bs : List Segment) (b : Segment) → Ordered c s bs → block_at x bs ≡ Some b → g ≤ b.length
       → every (clear_of b.start g) (without x bs) ≡ true
   own_clear g s x [] b o e h = refl
   own_clear g s x (d ∷ bs) b o e h =
@@ -38,7 +38,7 @@ module _ (c : Config) where
       let t : g ≤ d.length = subst (λ (k : Segment). g ≤ k.length) (sym z) h in
       rw q (subst (λ (k : Segment). every (clear_of k.start g) (without x bs) ≡ true) z
       (clear_all c d.start g (d.start + d.length) (without x bs) (omega arith) (only_ordered c (λ (b : Segment). not (eqb (offset b) x)) (d.start + d.length) bs o.2))))
-      (λ q. let e' : block_at x bs ≡ some b = rw q at e in
+      (λ q. let e' : block_at x bs ≡ Some b = rw q at e in
       let r : Begins c (d.start + d.length) x bs b = begins c (d.start + d.length) x bs b o.2 e' in
       rw (q, after_clear b.start g d r.from) (own_clear g (d.start + d.length) x bs b o.2 e' h))
 
@@ -51,7 +51,7 @@ module _ (c : Config) where
       rw (z, lt-leb (b.start + b.length) t (omega arith), lt-leb (b.start + b.length) (t + k) (omega arith), rest_clear t k g (b.start + b.length) bs (omega arith) m o.2)
 
   -- a longer run there is clear of the other blocks exactly if the rest of it is clear of all
-  behind_clear : (g s x : ℕ) (bs : List Segment) (b : Segment) → Ordered c s bs → block_at x bs ≡ some b → b.length < g
+  behind_clear : (g s x : ℕ) (bs : List Segment) (b : Segment) → Ordered c s bs → block_at x bs ≡ Some b → b.length < g
       → every (clear_of b.start g) (without x bs) ≡ every (clear_of (b.start + b.length) (g - b.length)) bs
   behind_clear g s x [] b o e h = refl
   behind_clear g s x (d ∷ bs) b o e h =
@@ -62,13 +62,13 @@ module _ (c : Config) where
       rw q (subst (λ (k : Segment). every (clear_of k.start g) (without x bs) ≡ every (clear_of (k.start + k.length) (g - k.length)) (d ∷ bs)) z
       (rw (without_later (d.start + d.length) x bs (omega tests) o.2, after_clear (d.start + d.length) (g - d.length) d (omega arith))
       (rest_clear d.start d.length g (d.start + d.length) bs (omega arith) t o.2))))
-      (λ q. let e' : block_at x bs ≡ some b = rw q at e in
+      (λ q. let e' : block_at x bs ≡ Some b = rw q at e in
       let r : Begins c (d.start + d.length) x bs b = begins c (d.start + d.length) x bs b o.2 e' in
       rw (q, after_clear b.start g d r.from, after_clear (b.start + b.length) (g - b.length) d (omega (arith, r.from)))
       (behind_clear g (d.start + d.length) x bs b o.2 e' h))
 
 -- Of the block at x.
-module _ (c : Config) (bs : List Segment) (ordered : Ordered c 0 bs) (x : ℕ) (b : Segment) (was : block_at x bs ≡ some b) (n : ℕ) where
+module _ (c : Config) (bs : List Segment) (ordered : Ordered c 0 bs) (x : ℕ) (b : Segment) (was : block_at x bs ≡ Some b) (n : ℕ) where
   begun : Begins c 0 x bs b
   begun = begins c 0 x bs b ordered was
 
@@ -94,11 +94,11 @@ module _ (c : Config) (bs : List Segment) (ordered : Ordered c 0 bs) (x : ℕ) (
   moves_longer e = split (leb (needed c n) b.length) (λ q. absurd (clash (stays c bs x n) (shorter_stays (omega tests)) e)) (λ q. omega tests)
 
   -- and its old and its new place have no byte in common.
-  pub moves_clear : (o : ℕ) (d : Segment) → stays c bs x n ≡ false → refit c bs o x n ≡ some d → disjoint x (bytes b) (offset d) (bytes d) ≡ true
+  pub moves_clear : (o : ℕ) (d : Segment) → stays c bs x n ≡ false → refit c bs o x n ≡ Some d → disjoint x (bytes b) (offset d) (bytes d) ≡ true
   moves_clear o d e f =
       split_option (lowest_start c bs (needed c n) 16)
-      (λ q. let f' : none ≡ some d = rw (e, q) at f in let w : ◌≡◌ {A = ℕ} 0 1 = cc in absurd (omega arith))
-      (λ s q. let f' : some (block c o n s) ≡ some d = rw (e, q) at f in
+      (λ q. let f' : None ≡ Some d = rw (e, q) at f in let w : ◌≡◌ {A = ℕ} 0 1 = cc in absurd (omega arith))
+      (λ s q. let f' : Some (block c o n s) ≡ Some d = rw (e, q) at f in
       let z : block c o n s ≡ d = cc in
       let t : clear_of s (needed c n) b ≡ true = every_first (clear_of s (needed c n)) _ bs b (lowest_place c bs (needed c n) 16 s q).clear was in
       subst (λ (k : Segment). disjoint x (bytes b) (offset k) (bytes k) ≡ true) z

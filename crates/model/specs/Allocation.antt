@@ -1,7 +1,6 @@
 -- Document 01's "Rules of lending", with document 02's base address, guards and resize, but for the arena's bytes: what a size needs, the set of live blocks, first fit by address, which block is at a byte or has a granule, which block a resize leaves, used, free and peak; and what an owner has of them.
 -- Assumes nothing.
-use Rattle.std.specs.Prelude.{ℕ, ◌+◌, ◌-◌, ◌*◌, ◌/◌, ◌%◌, max, Bool, not, List, [], ◌∷◌, leb, ltb, eqb}
-use Rattle.std.proofs.Math.Option.{Option, none, some}
+use Rattle.std.specs.Prelude.{ℕ, ◌+◌, ◌-◌, ◌*◌, ◌/◌, ◌%◌, max, Bool, not, List, [], ◌∷◌, leb, ltb, eqb, Option, None, Some}
 use Rattle.model.specs.Choose.{choose, both, either, every, only, first_of, total, least_from, given}
 use Rattle.model.specs.Quantities.{Config}
 use Rattle.model.specs.declared.Segment.{Segment}
@@ -45,7 +44,7 @@ block c o n s = record { start = s; length = needed c n; owner = o; requested = 
 
 -- An allocation gets the block at the lowest start, if there is one.
 abbrev pub fit : Config → List Segment → ℕ → ℕ → ℕ → Option Segment
-fit c bs o n a = given (lowest_start c bs (needed c n) a) none (λ s. some (block c o n s))
+fit c bs o n a = given (lowest_start c bs (needed c n) a) None (λ s. Some (block c o n s))
 
 -- A new block is inserted at its place in address order.
 abbrev pub insert : Segment → List Segment → List Segment
@@ -82,11 +81,11 @@ stays c bs x n = room c (without x bs) (needed c n) (x / 16)
 
 -- The resized block is at its own start if it stays, else at the lowest start, aligned to 16, that is clear of all live blocks, itself included, if there is one.
 abbrev pub refit : Config → List Segment → ℕ → ℕ → ℕ → Option Segment
-refit c bs o x n = choose (stays c bs x n) (some (block c o n (x / 16))) (fit c bs o n 16)
+refit c bs o x n = choose (stays c bs x n) (Some (block c o n (x / 16))) (fit c bs o n 16)
 
 -- A resize of the block at x to n bytes leaves this block instead of it: none if n is 0, which makes it a return, or if there is no place.
 abbrev pub resize : Config → List Segment → ℕ → ℕ → ℕ → Option Segment
-resize c bs o x n = choose (eqb n 0) none (refit c bs o x n)
+resize c bs o x n = choose (eqb n 0) None (refit c bs o x n)
 
 -- A block holds its granules times 16 bytes.
 abbrev pub bytes : Segment → ℕ

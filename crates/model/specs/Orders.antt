@@ -1,7 +1,6 @@
 -- The orders of refusal of documents 01 and 02, each as one list to lay beside its line, and 01's "proper" and "within limits".
 -- Assumes nothing.
-use Rattle.std.specs.Prelude.{ℕ, Bool, List, [], ◌∷◌, ◌++◌, eqb}
-use Rattle.std.proofs.Math.Option.{Option, none, some}
+use Rattle.std.specs.Prelude.{ℕ, Bool, List, [], ◌∷◌, ◌++◌, eqb, Option, None, Some}
 use Rattle.model.specs.Choose.{choose, given}
 use Rattle.model.specs.Quantities.{Config}
 use Rattle.model.specs.Allocation.{State, fit, without, refit}
@@ -72,8 +71,8 @@ holding_order is_valid o = invalid_heap is_valid ∷ bad_owner o ∷ []
 
 -- The first reason that applies is given, and none is given otherwise.
 abbrev pub first_reason : {R : Type 0} → Order R → Option R
-first_reason [] = none
-first_reason (r ∷ rs) = choose r.0 (some r.1) (first_reason rs)
+first_reason [] = None
+first_reason (r ∷ rs) = choose r.0 (Some r.1) (first_reason rs)
 
 -- A call comes to its value where no reason applies, else to what is made of the first that does.
 abbrev pub unless : {R A : Type 0} → Order R → A → (R → A) → A

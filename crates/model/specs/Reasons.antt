@@ -1,7 +1,6 @@
 -- Document 01's "Numbers that say no", 1 to 13, and document 02's 15 to 19: when each applies. (14 is the script program's.)
 -- Assumes nothing.
-use Rattle.std.specs.Prelude.{ℕ, ◌+◌, ◌*◌, ◌/◌, ◌%◌, Bool, false, not, List, leb, ltb, eqb, length}
-use Rattle.std.proofs.Math.Option.{Option}
+use Rattle.std.specs.Prelude.{ℕ, ◌+◌, ◌*◌, ◌/◌, ◌%◌, Bool, false, not, List, leb, ltb, eqb, length, Option}
 use Rattle.model.specs.Choose.{both, total, given, is_none}
 use Rattle.model.specs.Quantities.{is_arena, is_base, is_table, is_owner, quotas_in_range, is_alignment, Config, quota}
 use Rattle.model.specs.Allocation.{needed, charge, put, block_at, block_over, owned_by}

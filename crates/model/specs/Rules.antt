@@ -1,6 +1,6 @@
 -- What each call answers and leaves, of a set of live blocks; a call to which a reason applies answers the first, and leaves all as it was.
 -- Assumes nothing.
-use Rattle.std.specs.Prelude.{ℕ, ◌*◌, ◌/◌, Bool, List, length, replicate}
+use Rattle.std.specs.Prelude.{ℕ, ◌*◌, ◌/◌, Bool, List, length, replicate, Result, Ok, Err}
 use Rattle.model.specs.Choose.{choose, given}
 use Rattle.model.specs.Quantities.{Config}
 use Rattle.model.specs.Allocation.{State, fit, put, offset, block_at, without, resize, bytes, owned_by, granules_of, free_granules, changed}
@@ -8,26 +8,19 @@ use Rattle.model.specs.Arena.{zeroed, moved, with_guard, without_guard}
 use Rattle.model.specs.SegmentMap.{longest_free}
 use Rattle.model.specs.Orders.{unless, alloc_order, free_order, realloc_order, init_order, block_size_order, totals_order, holding_order}
 use Rattle.model.specs.declared.Plan.{Plan}
-use Rattle.model.specs.declared.Made.{Made}
-use Rattle.model.specs.declared.Made.TheVariants as made
-use Rattle.model.specs.declared.Placed.{Placed}
-use Rattle.model.specs.declared.Placed.TheVariants as placed
-use Rattle.model.specs.declared.Freed.{Freed}
-use Rattle.model.specs.declared.Freed.TheVariants as freed
 use Rattle.model.specs.declared.Resized.{Resized}
 use Rattle.model.specs.declared.Resized.TheVariants as resized
 use Rattle.model.specs.declared.BlockSize.{BlockSize}
-use Rattle.model.specs.declared.BlockSize.TheVariants as size
 use Rattle.model.specs.declared.Totals.{Totals}
-use Rattle.model.specs.declared.Totals.TheVariants as totals
 use Rattle.model.specs.declared.Holding.{Holding}
-use Rattle.model.specs.declared.Holding.TheVariants as holding
+use Rattle.model.specs.declared.Refusal.{Refusal}
+use Rattle.model.specs.declared.InitRefusal.{InitRefusal}
 
 -- Making is handed an arena, a table's words and a plan.
 module _ (arena words : List ℕ) (p : Plan) where
   -- It answers that it is done, or why not.
-  abbrev pub init : Made
-  init = unless (init_order arena words p) made.Done made.Refused
+  abbrev pub init : Result (Unit {0}) InitRefusal
+  init = unless (init_order arena words p) (Ok tt) Err
 
   -- The heap is made with the arena's granules, the plan's base, guards if the plan says so, the table's rows and the plan's quotas.
   abbrev pub init_config : Config
@@ -70,9 +63,9 @@ abbrev pub without_guard_at : Config → State → ℕ → List ℕ → List ℕ
 without_guard_at c h x arena = given (block_at x h.blocks) arena (λ b. without_guard c b arena)
 
 -- A free's answer, as a resize's.
-abbrev pub as_resize : Freed → Resized
-as_resize (freed.Bytes k) = resized.Freed k
-as_resize (freed.Refused why) = resized.Refused why
+abbrev pub as_resize : Result ℕ Refusal → Result Resized Refusal
+as_resize (Ok k) = Ok (resized.Freed k)
+as_resize (Err why) = Err why
 
 -- The value that a resize answers is the byte offset of the block that is left; if none is, the bytes that the block at x holds.
 abbrev pub resized_to : Config → State → ℕ → ℕ → ℕ → ℕ
@@ -109,8 +102,8 @@ owned_bytes h o = 16 * granules_of (owned_by o h.blocks)
 -- Every other call is told whether the record and the table are a valid heap, what that was made with, and its state.
 module _ (is_valid : Bool) (c : Config) (h : State) where
   -- An allocation of n bytes on a boundary of a bytes answers the byte offset of its block.
-  abbrev pub alloc : List ℕ → ℕ → ℕ → ℕ → Placed
-  alloc arena o n a = unless (alloc_order is_valid c h arena o n a) (placed.At (offset_for c h o n a)) placed.Refused
+  abbrev pub alloc : List ℕ → ℕ → ℕ → ℕ → Result ℕ Refusal
+  alloc arena o n a = unless (alloc_order is_valid c h arena o n a) (Ok (offset_for c h o n a)) Err
 
   -- Its block is live then, unless it is refused.
   abbrev pub after_alloc : List ℕ → ℕ → ℕ → ℕ → State
@@ -126,8 +119,8 @@ module _ (is_valid : Bool) (c : Config) (h : State) where
       unless (alloc_order is_valid c h arena o n a) (given (fit c h.blocks o n a) arena (λ b. with_guard c b arena)) (λ r. arena)
 
   -- A free answers the bytes that its block holds.
-  abbrev pub free : List ℕ → ℕ → ℕ → Freed
-  free arena o x = unless (free_order is_valid c h arena o x) (freed.Bytes (bytes_at h x)) freed.Refused
+  abbrev pub free : List ℕ → ℕ → ℕ → Result ℕ Refusal
+  free arena o x = unless (free_order is_valid c h arena o x) (Ok (bytes_at h x)) Err
 
   -- Its block is live no more, unless it is refused.
   abbrev pub after_free : List ℕ → ℕ → ℕ → State
@@ -142,11 +135,11 @@ module _ (is_valid : Bool) (c : Config) (h : State) where
   arena_after_free arena o x = unless (free_order is_valid c h arena o x) (zeroed x (bytes_at h x) arena) (λ r. arena)
 
   -- A resize of the block at x to n bytes answers the byte offset of the block that is left; to size 0 it answers as a free does.
-  abbrev pub realloc : List ℕ → ℕ → ℕ → ℕ → Resized
+  abbrev pub realloc : List ℕ → ℕ → ℕ → ℕ → Result Resized Refusal
   realloc arena o x n =
       unless (realloc_order is_valid c h arena o x n)
-      (given (resize c h.blocks o x n) (resized.Freed (bytes_at h x)) (λ b. resized.At (offset b)))
-      resized.Refused
+      (given (resize c h.blocks o x n) (Ok (resized.Freed (bytes_at h x))) (λ b. Ok (resized.At (offset b))))
+      Err
 
   -- The block that is left is live then instead of the one at x, unless it is refused.
   abbrev pub after_realloc : List ℕ → ℕ → ℕ → ℕ → State
@@ -169,16 +162,16 @@ module _ (is_valid : Bool) (c : Config) (h : State) where
       (λ r. arena)
 
   -- A block's size is the bytes requested and the bytes held.
-  abbrev pub block_size : ℕ → ℕ → BlockSize
+  abbrev pub block_size : ℕ → ℕ → Result BlockSize Refusal
   block_size o x =
-      unless (block_size_order is_valid c h o x) (size.Bytes (requested_at h x) (bytes_at h x)) size.Refused
+      unless (block_size_order is_valid c h o x) (Ok (record { requested = requested_at h x; held = bytes_at h x })) Err
 
   -- The totals are used, free, peak and the longest free run, all in bytes.
-  abbrev pub totals_of : Totals
+  abbrev pub totals_of : Result Totals Refusal
   totals_of =
-      unless (totals_order is_valid) (totals.Bytes (used_bytes h) (free_bytes c h) (peak_bytes h) (longest_bytes c h)) totals.Refused
+      unless (totals_order is_valid) (Ok (record { used = used_bytes h; free = free_bytes c h; peak = peak_bytes h; longest = longest_bytes c h })) Err
 
   -- What one owner holds is its blocks, and the bytes that they hold.
-  abbrev pub holding_of : ℕ → Holding
+  abbrev pub holding_of : ℕ → Result Holding Refusal
   holding_of o =
-      unless (holding_order is_valid o) (holding.Of (owned_blocks h o) (owned_bytes h o)) holding.Refused
+      unless (holding_order is_valid o) (Ok (record { blocks = owned_blocks h o; bytes = owned_bytes h o })) Err

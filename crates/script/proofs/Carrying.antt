@@ -3,7 +3,7 @@
 use mathlib.Core.Path.{◌≡◌, refl, sym, ap, ◌∙◌, subst}
 use mathlib.Core.Bool.{Bool, true, false, not}
 use mathlib.Core.List.{List, ◌++◌}
-use mathlib.Core.Option.{none, some}
+use Rattle.std.specs.Prelude.{None, Some, Ok, Err}
 use Prim.Native.Nat.{ℕ, ◌*◌, ◌≤◌, min}
 use native.Mathlib.Omega.{arith}
 use lib.Dec.{ltb}
@@ -21,12 +21,10 @@ use Rattle.heap.specs.Calls.{is_valid, config, state}
 use Rattle.heap.specs.Promises.{InitDone, AllocDone, FreeDone}
 use Rattle.heap.specs.declared.Heap.{Heap}
 use Rattle.heap.specs.declared.Initialized.{Initialized}
-use Rattle.heap.specs.declared.Allocated.{Allocated}
-use Rattle.heap.specs.declared.Released.{Released}
+use Rattle.heap.specs.declared.Outcome.{Outcome}
 use Rattle.heap.proofs.Making.{init_reason, none_applies}
 use Rattle.model.specs.declared.Refusal.TheVariants as refusal
 use Rattle.model.specs.declared.InitRefusal.{InitRefusal}
-use Rattle.model.specs.declared.Made.TheVariants as made
 use Rattle.script.specs.Commands.{answer_numbered}
 use Rattle.script.specs.Machine.{Machine, machine, with_heap, plan_of, most_bytes, placed_answer, freed_answer, limit_order, make_order, words, bytes, stored, leaving, answer_to, numbered_to, after}
 use Rattle.script.specs.Promises.{CommandDone}
@@ -77,16 +75,16 @@ module _ (s : Script) (ws bs : List ℕ) where
         rw q (λ i. machine (with_heap s (h i)) (w i ++ (at_most (4 * s.heap.capacity) k ws e).1 i) (b i ++ (at_most (16 * s.heap.granules) n bs f).1 i))
 
     -- So an allocation is carried out,
-    pub ask_done : (o m a : ℕ) (out : Allocated) (words_left bytes_left : List ℕ) → AllocDone s.heap (take k ws) (take n bs) o m a out words_left bytes_left
-        → (r : Carried) → r.answer ≡ placed_answer out.placed → r.script ≡ with_heap s out.heap
+    pub ask_done : (o m a : ℕ) (out : Outcome ℕ) (words_left bytes_left : List ℕ) → AllocDone s.heap (take k ws) (take n bs) o m a out words_left bytes_left
+        → (r : Carried) → r.answer ≡ placed_answer out.answer → r.script ≡ with_heap s out.heap
         → CommandDone s ws bs (command.Ask o m a) r (words_left ++ drop k ws) (bytes_left ++ drop n bs)
     ask_done o m a out words_left bytes_left d r is then =
         let w = lent (λ ws bs. AllocDone s.heap ws bs o m a out words_left bytes_left) d in
         command_done (is ∙ ap placed_answer w.answer) (left _ _ out.heap words_left bytes_left w.heap w.table w.arena r.script then)
 
     -- and a free.
-    pub back_done : (o x : ℕ) (out : Released) (words_left bytes_left : List ℕ) → FreeDone s.heap (take k ws) (take n bs) o x out words_left bytes_left
-        → (r : Carried) → r.answer ≡ freed_answer out.freed → r.script ≡ with_heap s out.heap
+    pub back_done : (o x : ℕ) (out : Outcome ℕ) (words_left bytes_left : List ℕ) → FreeDone s.heap (take k ws) (take n bs) o x out words_left bytes_left
+        → (r : Carried) → r.answer ≡ freed_answer out.answer → r.script ≡ with_heap s out.heap
         → CommandDone s ws bs (command.Back o x) r (words_left ++ drop k ws) (bytes_left ++ drop n bs)
     back_done o x out words_left bytes_left d r is then =
         let w = lent (λ ws bs. FreeDone s.heap ws bs o x out words_left bytes_left) d in
@@ -130,7 +128,7 @@ module _ (s : Script) (ws bs : List ℕ) (b r n k : ℕ) (bytes_part : n ≡ par
       (split (is_arena (length (take (part_of b (min most_bytes (length bs))) bs))) (λ q. rw (q, zero_base _ q)) (λ q. rw q))
 
   -- If it finds none, the parts have so many bytes and so many rows.
-  pub parts_whole : first_reason (make_order (machine s ws bs) b r) ≡ none → (n ≡ b) × (k ≡ 4 * r)
+  pub parts_whole : first_reason (make_order (machine s ws bs) b r) ≡ None → (n ≡ b) × (k ≡ 4 * r)
   unfolding make_order
   parts_whole q =
       let free = no_reason (make_order (machine s ws bs) b r) q in
@@ -141,20 +139,20 @@ module _ (s : Script) (ws bs : List ℕ) (b r n k : ℕ) (bytes_part : n ≡ par
     d = subst (λ (p : Plan). InitDone (take n bs) (take k ws) p out bytes words) planned promise
 
     -- Refused, the parts come back as they were.
-    pub make_refused : (why : InitRefusal) → out.made ≡ made.Refused why
+    pub make_refused : (why : InitRefusal) → out.answer ≡ Err why
         → CommandDone s ws bs (command.Make b r) (record { answer = answer.NotMade why; script = s }) (words ++ drop k ws) (bytes ++ drop n bs)
     make_refused why e =
-        let q : first_reason (init_order (take n bs) (take k ws) (plan_of s)) ≡ some why = init_reason (take n bs) (take k ws) (plan_of s) why (sym d.answer ∙ e) in
+        let q : first_reason (init_order (take n bs) (take k ws) (plan_of s)) ≡ Some why = init_reason (take n bs) (take k ws) (plan_of s) why (sym d.answer ∙ e) in
         let table : words ≡ take k ws = rw q at d.table in
         let arena : bytes ≡ take n bs = rw q at d.arena in
         command_done (rw (same_reason, q)) (rw (same_reason, q, table, arena, take-append-drop k ws, take-append-drop n bs))
 
     -- Done, the parts are the first b bytes and the first r rows.
-    pub make_done : out.made ≡ made.Done
+    pub make_done : out.answer ≡ Ok tt
         → (then : Script) → then ≡ with_heap s out.heap
         → CommandDone s ws bs (command.Make b r) (record { answer = answer.Ok b; script = then }) (words ++ drop k ws) (bytes ++ drop n bs)
     make_done e then h =
-        let q : first_reason (make_order (machine s ws bs) b r) ≡ none = same_reason ∙ none_applies _ _ _ (sym d.answer ∙ e) in
+        let q : first_reason (make_order (machine s ws bs) b r) ≡ None = same_reason ∙ none_applies _ _ _ (sym d.answer ∙ e) in
         let whole : (n ≡ b) × (k ≡ 4 * r) = parts_whole q in
         let w : InitDone (take b bs) (take (4 * r) ws) (plan_of s) out bytes words =
         subst (λ (l : ℕ × ℕ). InitDone (take l.0 bs) (take l.1 ws) (plan_of s) out bytes words) (λ i. (whole.0 i, whole.1 i)) d in

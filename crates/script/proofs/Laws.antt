@@ -3,7 +3,7 @@
 use mathlib.Core.Path.{◌≡◌, refl, sym, ap, ◌∙◌, subst}
 use mathlib.Core.Bool.{Bool, true, false, not}
 use mathlib.Core.List.{List, [], ◌∷◌, ◌++◌, append_assoc, append-nil}
-use mathlib.Core.Option.{none, some}
+use Rattle.std.specs.Prelude.{None, Some}
 use Prim.Native.Nat.{ℕ, zero, suc, ◌+◌, ◌-◌, ◌*◌, ◌/◌, ◌%◌, ◌≤◌, ◌<◌, min}
 use native.Mathlib.Omega.{arith}
 use lib.Dec.{ltb, eqb}
@@ -121,7 +121,7 @@ digits_some k n =
     split (ltb n 10) (λ q. rw q (omega arith)) (λ q. rw (q, length-append (digits_within k (n / 10)) ((48 + n % 10) ∷ [])) (omega arith))
 
 -- What is written for a number is read as that number.
-pub number_decimal : (n : ℕ) → n ≤ 4294967295 → number_in (decimal n) ≡ some n
+pub number_decimal : (n : ℕ) → n ≤ 4294967295 → number_in (decimal n) ≡ Some n
 unfolding decimal
 number_decimal n h =
     rw (
@@ -251,7 +251,7 @@ module _ (m : Machine) where
   -- A call on the heap makes none and loses none.
   call_stays : (order : Order Refusal) (h : State) (bs : List ℕ)
       → (is_valid (stored m) ≡ false → afterwards (stored m) order h ≡ stored m)
-      → (is_valid (stored m) ≡ true → first_reason order ≡ none → Kept (config (stored m)) h)
+      → (is_valid (stored m) ≡ true → first_reason order ≡ None → Kept (config (stored m)) h)
       → is_valid (stored (leaving m (afterwards (stored m) order h) bs)) ≡ either (is_valid (stored m)) false
   call_stays order h bs stays keeps =
       let valid-after : Stored → Bool = λ t. is_valid (stored (leaving m t bs)) in
@@ -267,17 +267,17 @@ module _ (m : Machine) where
       (λ v. ap valid-after (stays v) ∙ same)
       ∙ sym (either_false (is_valid (stored m)) false refl)
 
-  module _ (b r : ℕ) (granted : first_reason (make_order m b r) ≡ none) where
+  module _ (b r : ℕ) (granted : first_reason (make_order m b r) ≡ None) where
     -- A make that is granted is a making that is not refused.
     make_init : init (take b m.arena) (take (4 * r) m.table) (plan m) ≡ Done
     make_init =
         let n : ℕ = part_of b (min most_bytes (length m.arena)) in
         let k : ℕ = part_of (4 * r) (length m.table) in
         let whole : (n ≡ b) × (k ≡ 4 * r) = parts_whole m.script m.table m.arena b r n k refl refl granted in
-        let q : first_reason (init_order (take n m.arena) (take k m.table) (plan m)) ≡ none =
+        let q : first_reason (init_order (take n m.arena) (take k m.table) (plan m)) ≡ None =
         sym (same_reason m.script m.table m.arena b r n k refl refl) ∙ granted in
-        let e : first_reason (init_order (take b m.arena) (take (4 * r) m.table) (plan m)) ≡ none =
-        subst (λ (l : ℕ × ℕ). first_reason (init_order (take l.0 m.arena) (take l.1 m.table) (plan m)) ≡ none) (λ i. (whole.0 i, whole.1 i)) q in
+        let e : first_reason (init_order (take b m.arena) (take (4 * r) m.table) (plan m)) ≡ None =
+        subst (λ (l : ℕ × ℕ). first_reason (init_order (take l.0 m.arena) (take l.1 m.table) (plan m)) ≡ None) (λ i. (whole.0 i, whole.1 i)) q in
         rw e
 
     -- It leaves a valid heap.

@@ -3,7 +3,7 @@
 use mathlib.Core.Path.{◌≡◌, refl, sym, ap, ◌∙◌, subst}
 use mathlib.Core.Bool.{true, false}
 use mathlib.Core.List.{List, [], ◌∷◌}
-use mathlib.Core.Option.{Option, none, some}
+use Rattle.std.specs.Prelude.{Option, None, Some}
 use Prim.Native.Nat.{ℕ, suc, ◌+◌, ◌-◌, ◌*◌, ◌≤◌, ◌<◌}
 use native.Mathlib.Numerals.{add-one}
 use native.Mathlib.Omega.{arith}
@@ -100,18 +100,18 @@ readable f e =
     }
 
 -- A field that is no number has none.
-pub no_number : (f : List ℕ) → (Readable f → ⊥) → none ≡ number_in f
+pub no_number : (f : List ℕ) → (Readable f → ⊥) → None ≡ number_in f
 no_number f h = split (is_number f) (λ q. absurd (h (readable f q))) (λ q. rw q)
 
 -- A field has no number if the byte at place i, before which all are digits, is none.
-pub stray_byte : (f : List ℕ) (i : ℕ) → i < length f → every is_digit f ≡ every is_digit (drop i f) → (48 ≤ get_or f i 0 → get_or f i 0 ≤ 57 → ⊥) → none ≡ number_in f
+pub stray_byte : (f : List ℕ) (i : ℕ) → i < length f → every is_digit f ≡ every is_digit (drop i f) → (48 ≤ get_or f i 0 → get_or f i 0 ≤ 57 → ⊥) → None ≡ number_in f
 stray_byte f i h e q =
     no_number f (λ r.
     let b : is_digit (get_or f i 0) ≡ true = every_head is_digit (get_or f i 0) (drop (suc i) f) (rw (drop-cons f i 0 h) at (sym e ∙ r.digits)) in
     q (within_least 48 57 (get_or f i 0) b) (within_most 48 57 (get_or f i 0) b))
 
 -- A field that is a number has its value.
-pub a_number : (f : List ℕ) → Readable f → some (value_of f) ≡ number_in f
+pub a_number : (f : List ℕ) → Readable f → Some (value_of f) ≡ number_in f
 a_number f r = rw (bounds_within 1 10 (length f) r.some_digits r.few, r.digits, le-leb (value_of f) 4294967295 r.fits)
 
 -- Further digits make a value no smaller.
@@ -147,8 +147,8 @@ module _ (found : Numbers) (l : List ℕ) (i : ℕ) where
 
 -- What cannot be read stays so with one more number.
 unreadable_with : (x : Option ℕ) → with_number Unreadable x ≡ Unreadable
-unreadable_with none = refl
-unreadable_with (some n) = refl
+unreadable_with None = refl
+unreadable_with (Some n) = refl
 
 -- What cannot be read stays so with further fields.
 unreadable_read : (fs : List (List ℕ)) → numbers_read Unreadable fs ≡ Unreadable
@@ -166,26 +166,26 @@ by_word G l m a b o w =
 
 -- A word with two numbers.
 two_numbers : (w : List ℕ) (x y : Option ℕ) → with_two w x y ≡ command_for (word_read w) (with_number (with_number Zero x) y)
-two_numbers w (some a) (some b) =
-    by_word (λ v. with_two v (some a) (some b) ≡ command_of_two (word_read v) a b) refl refl refl refl (λ v p q r s. rw (p, q, r, s)) w
-two_numbers w (some a) none = refl
-two_numbers w none y = rw (unreadable_with y)
+two_numbers w (Some a) (Some b) =
+    by_word (λ v. with_two v (Some a) (Some b) ≡ command_of_two (word_read v) a b) refl refl refl refl (λ v p q r s. rw (p, q, r, s)) w
+two_numbers w (Some a) None = refl
+two_numbers w None y = rw (unreadable_with y)
 
 -- A word with three numbers.
 three_numbers : (w : List ℕ) (x y z : Option ℕ) → with_three w x y z ≡ command_for (word_read w) (with_number (with_number (with_number Zero x) y) z)
-three_numbers w (some a) (some b) (some c) =
-    by_word (λ v. with_three v (some a) (some b) (some c) ≡ command_of_three (word_read v) a b c) refl refl refl refl (λ v p q r s. rw (p, q, r, s)) w
-three_numbers w (some a) (some b) none = refl
-three_numbers w (some a) none z = rw (unreadable_with z)
-three_numbers w none y z = rw (unreadable_with y, unreadable_with z)
+three_numbers w (Some a) (Some b) (Some c) =
+    by_word (λ v. with_three v (Some a) (Some b) (Some c) ≡ command_of_three (word_read v) a b c) refl refl refl refl (λ v p q r s. rw (p, q, r, s)) w
+three_numbers w (Some a) (Some b) None = refl
+three_numbers w (Some a) None z = rw (unreadable_with z)
+three_numbers w None y z = rw (unreadable_with y, unreadable_with z)
 
 -- Four numbers are too many.
 four_numbers : (x y z v : Option ℕ) → with_number (with_number (with_number (with_number Zero x) y) z) v ≡ Unreadable
-four_numbers (some a) (some b) (some c) (some d) = refl
-four_numbers (some a) (some b) (some c) none = refl
-four_numbers (some a) (some b) none v = unreadable_with v
-four_numbers (some a) none z v = rw (unreadable_with z) (unreadable_with v)
-four_numbers none y z v = rw (unreadable_with y, unreadable_with z) (unreadable_with v)
+four_numbers (Some a) (Some b) (Some c) (Some d) = refl
+four_numbers (Some a) (Some b) (Some c) None = refl
+four_numbers (Some a) (Some b) None v = unreadable_with v
+four_numbers (Some a) None z v = rw (unreadable_with z) (unreadable_with v)
+four_numbers None y z v = rw (unreadable_with y, unreadable_with z) (unreadable_with v)
 
 -- A command is that of its word and of the numbers after it.
 command_parts : (w : List ℕ) (fs : List (List ℕ)) → command_of (w ∷ fs) ≡ command_for (word_read w) (numbers_read Zero fs)

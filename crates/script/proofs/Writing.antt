@@ -1,5 +1,6 @@
 -- Texts put into a buffer one after the other, the digits of a number, how long the lines are that are written, and what comes at the end.
 -- Assumes nothing.
+use Rattle.std.specs.Prelude.{Result, Ok, Err}
 use mathlib.Core.Path.{◌≡◌, refl, sym, ap, ◌∙◌, subst}
 use mathlib.Core.Bool.{true}
 use mathlib.Core.List.{List, [], ◌∷◌, ◌++◌, append_assoc, append-nil}
@@ -32,7 +33,6 @@ use Rattle.model.specs.declared.InitRefusal.TheVariants as init_refusal
 use Rattle.script.specs.Commands.{answer_line}
 use Rattle.script.specs.declared.Answer.TheVariants as answer
 use Rattle.model.specs.declared.Totals.{Totals}
-use Rattle.model.specs.declared.Totals.TheVariants as totals
 use Rattle.heap.specs.declared.Heap.{Heap}
 use Rattle.script.proofs.Lists.{sets_append, at_most}
 use Rattle.script.specs.declared.Script.{Script}
@@ -174,12 +174,12 @@ pub put_row : (i : ℕ) (ws : List ℕ) (x : Segment) → x ≡ segment_at ws i 
 put_row i ws x e f g = put_same (ap (λ s. seg_lines (segments_in i ws) ++ seg_line s) e ∙ sym (lines_more i ws)) (put_append f g)
 
 -- Totals that are not refused are those of a valid heap.
-totals_valid : (r : Heap) (ws : List ℕ) (used free peak longest : ℕ) → totals_of (handed r ws) ≡ totals.Bytes used free peak longest → valid r ws ≡ true
+totals_valid : (r : Heap) (ws : List ℕ) (used free peak longest : ℕ) → totals_of (handed r ws) ≡ Ok (record { used = used; free = free; peak = peak; longest = longest }) → valid r ws ≡ true
 unfolding totals_order
 totals_valid r ws used free peak longest e =
     split (valid r ws)
     (λ v. v)
-    (λ v. let e' : totals.Refused refusal.InvalidHeap ≡ totals.Bytes used free peak longest = rw v at e in let w : ◌≡◌ {A = ℕ} 0 1 = cc in absurd (omega arith))
+    (λ v. let e' : Err refusal.InvalidHeap ≡ Ok (record { used = used; free = free; peak = peak; longest = longest }) = rw v at e in let w : ◌≡◌ {A = ℕ} 0 1 = cc in absurd (omega arith))
 
 -- What comes at the end, where the heap's table is lent in the first n words.
 module _ (s : Script) (table : List ℕ) (n : ℕ) (lent : n ≡ min (4 * s.heap.capacity) (length table)) where
@@ -188,17 +188,17 @@ module _ (s : Script) (table : List ℕ) (n : ℕ) (lent : n ≡ min (4 * s.heap
   lent_words = (at_most (4 * s.heap.capacity) n table lent).0
 
   -- What is written at the end goes by the totals.
-  closing_told : (t : Totals) → TotalsDone s.heap (take n table) t → (bs : List ℕ) → closing (machine s table bs) ≡ closing_with (machine s table bs) t
+  closing_told : (t : Result Totals Refusal) → TotalsDone s.heap (take n table) t → (bs : List ℕ) → closing (machine s table bs) ≡ closing_with (machine s table bs) t
   closing_told t done bs =
       ap (closing_with (machine s table bs)) (sym (ap (λ ws. totals_of (handed s.heap ws)) lent_words) ∙ sym done.answer)
 
   -- Nothing is written where the totals are refused.
-  pub closing_none : (t : Totals) → TotalsDone s.heap (take n table) t → (why : Refusal) → t ≡ totals.Refused why
+  pub closing_none : (t : Result Totals Refusal) → TotalsDone s.heap (take n table) t → (why : Refusal) → t ≡ Err why
       → {buffer : List ℕ} {at : ℕ} (bs : List ℕ) → Put (closing (machine s table bs)) buffer at at buffer
   closing_none t done why e bs =
       put_same (sym (closing_told t done bs ∙ ap (closing_with (machine s table bs)) e)) (put_none refl)
 
-  module _ (t : Totals) (done : TotalsDone s.heap (take n table) t) (used free peak longest : ℕ) (e : t ≡ totals.Bytes used free peak longest) where
+  module _ (t : Result Totals Refusal) (done : TotalsDone s.heap (take n table) t) (used free peak longest : ℕ) (e : t ≡ Ok (record { used = used; free = free; peak = peak; longest = longest })) where
     -- The heap is valid otherwise, so that its rows are few, and all lent.
     pub rows_lent : (s.heap.rows ≤ 512) × (4 * s.heap.rows ≤ length (take n table))
     rows_lent =

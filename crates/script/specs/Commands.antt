@@ -1,7 +1,6 @@
 -- What a line of a script may be, and what is written in answer: document 01's "The script program".
 -- Assumes nothing.
-use Rattle.std.specs.Prelude.{ℕ, zero, suc, List, [], ◌∷◌, leb, length}
-use Rattle.std.proofs.Math.Option.{Option, none, some}
+use Rattle.std.specs.Prelude.{ℕ, zero, suc, List, [], ◌∷◌, leb, length, Option, None, Some}
 use Rattle.model.specs.Choose.{choose}
 use Rattle.model.specs.Numbers.{number_of, init_number_of, Numbered}
 use Rattle.script.specs.Text.{ascii, fields_of, number_in, same, line_of}
@@ -12,18 +11,18 @@ use Rattle.script.specs.declared.Answer.TheVariants as answer
 
 -- A word with three numbers is `limit O G B` or `ask O N A`.
 abbrev pub with_three : List ℕ → Option ℕ → Option ℕ → Option ℕ → Command
-with_three w (some a) (some b) (some c) =
+with_three w (Some a) (Some b) (Some c) =
     choose (same w (ascii "limit")) (Limit a b c) (choose (same w (ascii "ask")) (Ask a b c) Unreadable)
-with_three w (some a) (some b) none = Unreadable
-with_three w (some a) none c = Unreadable
-with_three w none b c = Unreadable
+with_three w (Some a) (Some b) None = Unreadable
+with_three w (Some a) None c = Unreadable
+with_three w None b c = Unreadable
 
 -- A word with two numbers is `make BYTES ROWS` or `back O OFFSET`.
 abbrev pub with_two : List ℕ → Option ℕ → Option ℕ → Command
-with_two w (some a) (some b) =
+with_two w (Some a) (Some b) =
     choose (same w (ascii "make")) (Make a b) (choose (same w (ascii "back")) (Back a b) Unreadable)
-with_two w (some a) none = Unreadable
-with_two w none b = Unreadable
+with_two w (Some a) None = Unreadable
+with_two w None b = Unreadable
 
 -- A command is a word and two or three numbers; with fewer fields or more it cannot be read.
 abbrev pub command_of : List (List ℕ) → Command

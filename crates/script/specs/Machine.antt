@@ -1,6 +1,6 @@
 -- What a script is carried out on, and what each command answers and leaves, for every state.
 -- Assumes nothing.
-use Rattle.std.specs.Prelude.{ℕ, ◌-◌, ◌*◌, false, not, List, [], ◌∷◌, ◌++◌, ltb, length, take, drop, set, replicate}
+use Rattle.std.specs.Prelude.{ℕ, ◌-◌, ◌*◌, false, not, List, [], ◌∷◌, ◌++◌, ltb, length, take, drop, set, replicate, Result, Ok, Err}
 use Rattle.model.specs.Choose.{either}
 use Rattle.model.specs.Quantities.{is_arena, is_table}
 use Rattle.model.specs.Reasons.{bad_owner, bad_quota}
@@ -15,12 +15,7 @@ use Rattle.model.specs.declared.Segment.{Segment}
 use Rattle.model.specs.declared.Refusal.{Refusal}
 use Rattle.model.specs.declared.InitRefusal.{InitRefusal}
 use Rattle.model.specs.declared.InitRefusal.TheVariants as init_refusal
-use Rattle.model.specs.declared.Placed.{Placed}
-use Rattle.model.specs.declared.Placed.TheVariants as placed
-use Rattle.model.specs.declared.Freed.{Freed}
-use Rattle.model.specs.declared.Freed.TheVariants as freed
 use Rattle.model.specs.declared.Totals.{Totals}
-use Rattle.model.specs.declared.Totals.TheVariants as totals
 use Rattle.heap.specs.declared.Heap.{Heap}
 use Rattle.script.specs.declared.Script.{Script}
 use Rattle.script.specs.declared.Command.{Command}
@@ -59,14 +54,14 @@ abbrev pub limit_order : ℕ → Order Refusal
 limit_order o = bad_owner o ∷ []
 
 -- What an allocation answers is written as its offset.
-abbrev pub placed_answer : Placed → Answer
-placed_answer (placed.At x) = answer.Ok x
-placed_answer (placed.Refused r) = answer.Refused r
+abbrev pub placed_answer : Result ℕ Refusal → Answer
+placed_answer (Ok x) = answer.Ok x
+placed_answer (Err r) = answer.Refused r
 
 -- What a free answers is written as the bytes given back.
-abbrev pub freed_answer : Freed → Answer
-freed_answer (freed.Bytes k) = answer.Ok k
-freed_answer (freed.Refused r) = answer.Refused r
+abbrev pub freed_answer : Result ℕ Refusal → Answer
+freed_answer (Ok k) = answer.Ok k
+freed_answer (Err r) = answer.Refused r
 
 -- A row is written in bytes: start, length, owner, bytes requested.
 abbrev pub seg_line : Segment → List ℕ
@@ -157,10 +152,10 @@ module _ (m : Machine) where
   after command.Unreadable = m
 
   -- At the end come the rows in use, then `sum` with the totals.
-  abbrev pub closing_with : Totals → List ℕ
-  closing_with (totals.Bytes used free peak longest) =
+  abbrev pub closing_with : Result Totals Refusal → List ℕ
+  closing_with (Ok (record { used = used; free = free; peak = peak; longest = longest })) =
       seg_lines (segments_in heap.rows words) ++ line_of (ascii "sum") (used ∷ free ∷ peak ∷ longest ∷ [])
-  closing_with (totals.Refused r) = []
+  closing_with (Err r) = []
 
   -- There is a heap if its totals are not refused, that is, if it is valid; after a script from its start on, exactly if some make was granted (`proofs/Laws`).
   abbrev pub closing : List ℕ

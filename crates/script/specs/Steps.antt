@@ -1,7 +1,6 @@
 -- What the functions within the crate answer and leave, step by step: a caller needs none of it.
 -- Assumes nothing.
-use Rattle.std.specs.Prelude.{ℕ, suc, ◌+◌, ◌≤◌, ◌≡◌, List, [], ◌∷◌, ◌++◌, ltb, eqb, length, take}
-use Rattle.std.proofs.Math.Option.{Option, none, some}
+use Rattle.std.specs.Prelude.{ℕ, suc, ◌+◌, ◌≤◌, ◌≡◌, List, [], ◌∷◌, ◌++◌, ltb, eqb, length, take, Option, None, Some}
 use Rattle.std.proofs.lemmas.List.Edits.{sets}
 use Rattle.model.specs.Choose.{choose}
 use Rattle.script.specs.Text.{ascii, pieces, number_in, same, at_front}
@@ -32,17 +31,17 @@ following s (b ∷ bs) = pieces s bs
 
 -- The number that was read.
 abbrev pub number_read : Number → Option ℕ
-number_read (number.Value n) = some n
-number_read number.Nothing = none
+number_read (number.Value n) = Some n
+number_read number.Nothing = None
 
 -- The numbers with one more.
 abbrev pub with_number : Numbers → Option ℕ → Numbers
-with_number found none = Unreadable
-with_number Zero (some n) = One n
-with_number (One a) (some n) = Two a n
-with_number (Two a b) (some n) = Three a b n
-with_number (Three a b c) (some n) = Unreadable
-with_number Unreadable (some n) = Unreadable
+with_number found None = Unreadable
+with_number Zero (Some n) = One n
+with_number (One a) (Some n) = Two a n
+with_number (Two a b) (Some n) = Three a b n
+with_number (Three a b c) (Some n) = Unreadable
+with_number Unreadable (Some n) = Unreadable
 
 -- The numbers with those of further fields.
 abbrev pub numbers_read : Numbers → List (List ℕ) → Numbers

@@ -1,9 +1,8 @@
 -- Bytes as text: the pieces between separators, and numbers in decimal digits, read and written.
 -- Assumes nothing.
-use Rattle.std.specs.Prelude.{ℕ, zero, suc, ◌+◌, ◌-◌, ◌*◌, ◌/◌, ◌%◌, Bool, true, false, List, [], ◌∷◌, ◌++◌, leb, ltb, eqb, length, drop}
+use Rattle.std.specs.Prelude.{ℕ, zero, suc, ◌+◌, ◌-◌, ◌*◌, ◌/◌, ◌%◌, Bool, true, false, List, [], ◌∷◌, ◌++◌, leb, ltb, eqb, length, drop, Option, None, Some}
 use Prim.Native.Char.{code}
 use Prim.Native.String.{String, len, char_at}
-use Rattle.std.proofs.Math.Option.{Option, none, some}
 use Rattle.model.specs.Choose.{choose, both, every}
 use Rattle.model.specs.Quantities.{within}
 
@@ -70,7 +69,7 @@ is_number f = both (within 1 10 (length f)) (both (every is_digit f) (leb (value
 
 -- The number in a field, if there is one.
 abbrev pub number_in : List ℕ → Option ℕ
-number_in f = choose (is_number f) (some (value_of f)) none
+number_in f = choose (is_number f) (Some (value_of f)) None
 
 -- The same bytes in the same order.
 abbrev pub same : List ℕ → List ℕ → Bool

@@ -62,14 +62,14 @@ module _ (c : Config) where
         let f : First k.end c.granules x xs = first k.end c.granules x xs t in
         let e : x.start + x.length ≤ c.granules = tiles_le (x.start + x.length) c.granules xs f.rest in
         both_true _ _ (eq-eqb x.start k.end f.start)
-        (both_true _ _ (le-leb 1 x.length f.some)
+        (both_true _ _ (le-leb 1 x.length f.Some)
         (both_true _ _ (le-leb x.length (c.granules - k.end) (omega arith))
         (both_true _ _ (every_head (well_formed c) x xs w) n)))
 
     -- If the first follows, the others say whether all of them are.
     rest_goes_on : Follows c k x → (b : Bool) → is_free x ≡ b → goes_on (k.end + x.length) b xs ≡ goes_on k.end k.after_free (x ∷ xs)
     rest_goes_on f b o =
-        rw (eq-eqb x.start k.end f.start, le-leb 1 x.length f.some, f.formed, f.apart, o)
+        rw (eq-eqb x.start k.end f.start, le-leb 1 x.length f.Some, f.formed, f.apart, o)
 
   -- A count that is not broken says whether the rows go on to the arena's end.
   decided : (k : Census) (xs : List Segment) → k.ok ≡ true → done (all k xs) ≡ goes_on k.end k.after_free xs

@@ -1,7 +1,7 @@
 -- The free run around a row that is given back, and the map with a block in place of the one in that row.
 -- Assumes nothing.
 use Rattle.std.proofs.Common.{◌≡◌, ℕ, ◌+◌, ◌-◌, ◌%◌, ◌<◌, ◌≤◌, Bool, true, false, not, eqb, ltb, leb, List, [], ◌∷◌, ◌++◌, length, take, sym, refl, ap, ◌∙◌, subst, append_assoc, append-nil, arith, length-append, take_at, eqb-true, le-leb}
-use mathlib.Core.Option.{some}
+use Rattle.std.specs.Prelude.{Some}
 use lib.Seq.{append_snoc}
 use borrow.Author.Tests.{lt-leb}
 use Rattle.model.specs.Choose.{choose, both, every, only, first_of}
@@ -53,7 +53,7 @@ around_bounds c n i ws h m =
 
 -- a row of a map is the one over each of its granules
 over_parted : (c : Config) (ys zs : List Segment) (x : Segment) (g : ℕ) → is_map c (ys ++ (x ∷ zs)) ≡ true → has_granule g x ≡ true
-    → block_over g (ys ++ (x ∷ zs)) ≡ some x
+    → block_over g (ys ++ (x ∷ zs)) ≡ Some x
 over_parted c ys zs x g m h =
     let r : Row c ys x zs = row_of c ys x zs m in
     first_back (has_granule g) ys (x ∷ zs) (lacks_after 0 r.place.from g ys r.place.front (omega (arith, r.start, granule_in g x h)))
@@ -61,7 +61,7 @@ over_parted c ys zs x g m h =
 
 -- The row of a map that has a granule is the one over it.
 pub segment_over : (c : Config) (n : ℕ) (ws : List ℕ) (g j : ℕ) → is_map c (segments_in n ws) ≡ true → j < n → has_granule g (segment_at ws j) ≡ true
-    → block_over g (segments_in n ws) ≡ some (segment_at ws j)
+    → block_over g (segments_in n ws) ≡ Some (segment_at ws j)
 segment_over c n ws g j m h k =
     let e = row_parted n ws j h in
     ap (block_over g) e ∙ over_parted c (take j (segments_in n ws)) (rest n (j + 1) ws) (segment_at ws j) g (subst (λ r. is_map c r ≡ true) e m) k
@@ -69,7 +69,7 @@ segment_over c n ws g j m h k =
 -- those of which a test fails may be left out
 first_skip : (p : Segment → Bool) (xs ys zs : List Segment) → every (λ (x : Segment). not (p x)) ys ≡ true → first_of p (xs ++ (ys ++ zs)) ≡ first_of p (xs ++ zs)
 first_skip p [] ys zs e = first_back p ys zs e
-first_skip p (x ∷ xs) ys zs e = ap (choose (p x) (some x)) (first_skip p xs ys zs e)
+first_skip p (x ∷ xs) ys zs e = ap (choose (p x) (Some x)) (first_skip p xs ys zs e)
 
 -- the last of a list
 abbrev last_of : Segment → List Segment → Segment
@@ -152,7 +152,7 @@ module _ (c : Config) (n i : ℕ) (ws : List ℕ) (h : i < n) (m : is_map c (seg
     left_one : length left ≤ 1
     right_one : length right ≤ 1
     after_live : first_free after ≡ false
-    some : 1 ≤ row.length
+    Some : 1 ≤ row.length
 
   around : Around
   around =
@@ -195,7 +195,7 @@ module _ (c : Config) (n i : ℕ) (ws : List ℕ) (h : i < n) (m : is_map c (seg
         left_one = g.left_one;
         right_one = g.right_one;
         after_live = g.after_live;
-        some = f.some;
+        Some = f.Some;
       }
 
   -- The other blocks are in order, and their map is one.
@@ -206,7 +206,7 @@ module _ (c : Config) (n i : ℕ) (ws : List ℕ) (h : i < n) (m : is_map c (seg
   map_others = is_map_lem c (others n i ws) ordered
 
   -- Over a granule of the map without that row stands the free run if it has the granule, and else what stood there.
-  pub over_around : (g : ℕ) → block_over g (map_of c (others n i ws)) ≡ choose (has_granule g (run_around n i ws)) (some (run_around n i ws)) (block_over g (segments_in n ws))
+  pub over_around : (g : ℕ) → block_over g (map_of c (others n i ws)) ≡ choose (has_granule g (run_around n i ws)) (Some (run_around n i ws)) (block_over g (segments_in n ws))
   over_around g =
       let a : Around = around in
       let run : Segment = run_around n i ws in
@@ -237,14 +237,14 @@ module _ (c : Config) (n i : ℕ) (ws : List ℕ) (h : i < n) (m : is_map c (seg
       (λ p. let inside : leb (row.start + g) c.granules ≡ true = search parts in
       let all : every clear (only is_live a.before ++ only is_live a.after) ≡ true = search parts in
       le-leb (row.start + g) to
-      (clear_end row.start g to c.granules a.after a.back a.after_live (every_back clear (only is_live a.before) (only is_live a.after) all) (omega (arith, a.some)) (omega tests)))
+      (clear_end row.start g to c.granules a.after a.back a.after_live (every_back clear (only is_live a.before) (only is_live a.after) all) (omega (arith, a.Some)) (omega tests)))
       (λ p. both_true (leb (row.start + g) c.granules) (every clear (only is_live a.before ++ only is_live a.after)) (le-leb (row.start + g) c.granules (omega tests))
       (every_append clear (only is_live a.before) (only is_live a.after)
       (every_only clear is_live a.before (every_weaker (ends_by from) clear (λ y k. after_clear row.start g y (omega tests)) a.before (tiles_end 0 from a.before a.front)))
       (every_only clear is_live a.after (every_weaker (starts_from to) clear (λ y k. before_clear row.start g y (omega tests)) a.after (tiles_from to to c.granules a.after (omega arith) a.back))))))
 
   -- So it starts where it does, or where first fit finds it.
-  pub refit_stays : (g : ℕ) → row.start + g ≤ to → some row.start ≡ refit_start c n i g ws
+  pub refit_stays : (g : ℕ) → row.start + g ≤ to → Some row.start ≡ refit_start c n i g ws
   refit_stays g k = rw (stays_around g ∙ le-leb (row.start + g) to k)
 
   -- What first fit finds on 16 bytes, for a base with the same remainder by 16, is where the block goes.
@@ -276,14 +276,14 @@ module _ (c : Config) (n i : ℕ) (ws : List ℕ) (h : i < n) (m : is_map c (seg
       omega (arith, around_count, ap length a.map ∙ length-append a.before (run_around n i ws ∷ a.after))
 
   module _ (b t : Segment) (l : Live c b) (fits : room c (others n i ws) b.length b.start ≡ true)
-      (over : block_over b.start (map_of c (others n i ws)) ≡ some t) where
+      (over : block_over b.start (map_of c (others n i ws)) ≡ Some t) where
     target : MapWith c (others n i ws) b
     target = map_with c (others n i ws) b ordered l fits
 
     target_is : target.row ≡ t
     target_is =
         let w : MapWith c (others n i ws) b = target in
-        let e : some w.row ≡ some t =
+        let e : Some w.row ≡ Some t =
         sym (ap (block_over b.start) w.map
         ∙ over_parted c w.before w.after w.row b.start (subst (λ r. is_map c r ≡ true) w.map map_others)
         (in_granule b.start w.row w.low (omega (arith, w.high, long c b l))))

@@ -1,7 +1,7 @@
 -- What a caller makes of what it found in the rows: the block over a granule, and the map with a block placed where first fit said.
 -- Assumes nothing.
 use Rattle.std.proofs.Common.{◌≡◌, ℕ, ◌+◌, ◌-◌, ◌<◌, ◌≤◌, Bool, true, not, List, ◌∷◌, ◌++◌, length, take, ap, ◌∙◌, subst, arith}
-use mathlib.Core.Option.{none, some}
+use Rattle.std.specs.Prelude.{None, Some}
 use Rattle.model.specs.Choose.{choose, every, only}
 use Rattle.model.specs.Quantities.{Config}
 use Rattle.model.specs.Allocation.{has_granule, block_over, insert}
@@ -33,7 +33,7 @@ lacks_before s e i xs t h = every_weaker (starts_from s) (lacks i) (λ y k. rw (
 
 -- The block over granule i of the arena is the row of that granule if that is live, and else there is none.
 pub over_row : (c : Config) (n : ℕ) (ws : List ℕ) (i row : ℕ) → is_map c (segments_in n ws) ≡ true → i < c.granules → RowOf n i ws row
-    → block_over i (blocks_in n ws) ≡ choose (is_live (segment_at ws row)) (some (segment_at ws row)) none
+    → block_over i (blocks_in n ws) ≡ choose (is_live (segment_at ws row)) (Some (segment_at ws row)) None
 over_row c n ws i row m h r =
     let xs : List Segment = segments_in n ws in
     let ys : List Segment = take row xs in

@@ -23,7 +23,7 @@ bytes_fit g k r h =
 -- What is known of a row that follows.
 pub record Follows (c : Config) (k : Census) (x : Segment) : Type 0 where
   pub start : x.start ≡ k.end
-  pub some : 1 ≤ x.length
+  pub Some : 1 ≤ x.length
   pub most : x.length ≤ c.granules - k.end
   pub formed : well_formed c x ≡ true
   pub owner : x.owner ≤ 8
@@ -46,7 +46,7 @@ module _ (c : Config) (k : Census) (x : Segment) where
       let r : requested_fits c x ≡ true = search parts in
       record {
         start = omega tests;
-        some = omega tests;
+        Some = omega tests;
         most = omega tests;
         formed = w;
         owner = omega tests;

@@ -84,7 +84,7 @@ module _ (c : Config) (k : Census) (x : Segment) where
           end = omega arith;
           used = omega arith;
           longest = omega arith;
-          blocks = raised k.blocks (x.owner - 1) 1 k.end x.length (omega tests) f.some b.blocks;
+          blocks = raised k.blocks (x.owner - 1) 1 k.end x.length (omega tests) f.Some b.blocks;
           held = raised k.held (x.owner - 1) x.length k.end x.length (omega tests) (omega arith) b.held;
           blocks_eight = rw length-set b.blocks_eight;
           held_eight = rw length-set b.held_eight;

@@ -1,7 +1,7 @@
 -- A live row given back: it becomes one free run with the free rows next to it, and that is the map of the blocks without it.
 -- Assumes nothing.
 use Rattle.std.proofs.Common.{◌≡◌, ℕ, ◌+◌, ◌-◌, ◌<◌, ◌≤◌, Bool, true, false, not, eqb, ltb, List, [], ◌∷◌, ◌++◌, length, take, drop, sym, refl, ap, ◌∙◌, subst, append_assoc, append-nil, arith, length-append, lt-ltb, eq-eqb, ne_eqb, eqb-true}
-use mathlib.Core.Option.{some}
+use Rattle.std.specs.Prelude.{Some}
 use lib.Seq.{take-append_seam, drop-append_seam, append_snoc}
 use borrow.Author.Tests.{not-true}
 use Rattle.model.specs.Choose.{choose, every, only}
@@ -222,7 +222,7 @@ module _ (c : Config) (ys zs : List Segment) (x : Segment) (m : is_map c (ys ++ 
       let v : Window c g.before (g.left ++ (x ∷ g.right)) g.after = g.place in
       let p : Parted v.from v.to g.left (x ∷ g.right) = part v.from v.to g.left (x ∷ g.right) v.filled in
       let h : First p.at v.to x g.right = first p.at v.to x g.right p.back in
-      let s : v.from < v.to = omega (arith, tiles_le v.from p.at g.left p.front, tiles_le (x.start + x.length) v.to g.right h.rest, h.start, h.some) in
+      let s : v.from < v.to = omega (arith, tiles_le v.from p.at g.left p.front, tiles_le (x.start + x.length) v.to g.right h.rest, h.start, h.Some) in
       let a : only is_live ys ≡ only is_live g.before =
       ap (only is_live) g.front ∙ only_append is_live g.before g.left ∙ rw (only_none is_free g.left g.left_free) (append-nil (only is_live g.before)) in
       let b : only is_live zs ≡ only is_live g.after =
@@ -250,12 +250,12 @@ record Standing (c : Config) (s x : ℕ) (bs : List Segment) (b : Segment) : Typ
   live : Live c b
   at : offset b ≡ x
 
-standing : (c : Config) (s x : ℕ) (bs : List Segment) (b : Segment) → Ordered c s bs → block_at x bs ≡ some b → Standing c s x bs b
+standing : (c : Config) (s x : ℕ) (bs : List Segment) (b : Segment) → Ordered c s bs → block_at x bs ≡ Some b → Standing c s x bs b
 standing c s x [] b o e = let z : ◌≡◌ {A = ℕ} 0 1 = cc in absurd (omega arith)
 standing c s x (d ∷ bs) b o e =
     let rest : List Segment = map_from c.granules (d.start + d.length) bs in
     split (eqb (offset d) x)
-    (λ q. let e' : some d ≡ some b = rw q at e in
+    (λ q. let e' : Some d ≡ Some b = rw q at e in
     let z : d ≡ b = cc in
     subst (Standing c s x (d ∷ bs)) z (record { before = gap s d.start; after = rest; map = refl; live = o.1; at = eqb-true (offset d) x q }))
     (λ q. let r : Standing c (d.start + d.length) x bs b = standing c (d.start + d.length) x bs b o.2 (rw q at e) in
@@ -275,7 +275,7 @@ pub record MapWithout (c : Config) (x : ℕ) (bs : List Segment) (b : Segment) :
   pub new : map_of c (without x bs) ≡ released (length before) (map_of c bs)
   pub merged : Merged c before b after (map_of c (without x bs))
 
-pub map_without : (c : Config) (x : ℕ) (bs : List Segment) (b : Segment) → Ordered c 0 bs → block_at x bs ≡ some b → MapWithout c x bs b
+pub map_without : (c : Config) (x : ℕ) (bs : List Segment) (b : Segment) → Ordered c 0 bs → block_at x bs ≡ Some b → MapWithout c x bs b
 map_without c x bs b o e =
     let s : Standing c 0 x bs b = standing c 0 x bs b o e in
     let m : is_map c (s.before ++ (b ∷ s.after)) ≡ true = subst (λ r. is_map c r ≡ true) s.map (is_map_lem c bs o) in

@@ -1,7 +1,7 @@
 -- A block that may take the place of the one in a row: where it lies, how many rows there are with it, and the row given back and another cut for it.
 -- Assumes nothing.
 use Rattle.std.proofs.Common.{◌≡◌, ℕ, ◌+◌, ◌-◌, ◌*◌, ◌≤◌, true, leb, List, length, sym, ap, ◌∙◌, subst, arith, eqb-true}
-use mathlib.Core.Option.{some}
+use Rattle.std.specs.Prelude.{Some}
 use borrow.Author.Tests.{not-true}
 use Rattle.model.specs.Choose.{choose, only}
 use Rattle.model.specs.Quantities.{Config}
@@ -36,7 +36,7 @@ module _ {c : Config} {n i : ℕ} {b : Segment} {ws : List ℕ} (r : Replaceable
   inside = let z : leb (b.start + b.length) c.granules ≡ true = both_left _ _ r.fits in omega tests
 
   -- A row of the map without the old block that is over the new one's start.
-  module _ {t : Segment} (over : block_over b.start (map_of c blocks) ≡ some t) where
+  module _ {t : Segment} (over : block_over b.start (map_of c blocks) ≡ Some t) where
     bounds : (t.start ≤ b.start) × (b.start + b.length ≤ t.start + t.length) × (t.start + t.length ≤ c.granules)
     bounds = target_bounds c n i ws r.in_use r.map r.old b t live_block r.fits over
 
@@ -59,7 +59,7 @@ module _ {c : Config} {n i : ℕ} {b : Segment} {ws : List ℕ} (r : Replaceable
 
     -- The new block begins in the run, or else in the row in which it begins now.
     module _ {at : ℕ} (w : RowOf n b.start ws at) {before t : Segment} (before_is : before ≡ segment_at ws at) (is : t ≡ choose (has_granule b.start run) run before) where
-      over : block_over b.start (map_of c blocks) ≡ some t
+      over : block_over b.start (map_of c blocks) ≡ Some t
       over =
           let m : tiles 0 c.granules (segments_in n ws) ≡ true = both_left _ _ r.map in
           let g : has_granule b.start (segment_at ws at) ≡ true = w.has c.granules m (omega (arith, inside, long c b live_block)) in
@@ -67,8 +67,8 @@ module _ {c : Config} {n i : ℕ} {b : Segment} {ws : List ℕ} (r : Replaceable
           is ∙ (λ j. choose (has_granule b.start (run_is j)) (run_is j) (before_is j)) in
           over_around c n i ws r.in_use r.map r.old b.start
           ∙ split (has_granule b.start (run_around n i ws))
-          (λ q. rw q (ap some (sym (e ∙ rw q))))
-          (λ q. rw q (segment_over c n ws b.start at r.map w.in_use g ∙ ap some (sym (e ∙ rw q))))
+          (λ q. rw q (ap Some (sym (e ∙ rw q))))
+          (λ q. rw q (segment_over c n ws b.start at r.map w.in_use g ∙ ap Some (sym (e ∙ rw q))))
 
       -- That row ends in the arena, and the rows with the block follow from it.
       pub target_inside : t.start + t.length ≤ c.granules
@@ -103,7 +103,7 @@ module _ {c : Config} {n i : ℕ} {b : Segment} {ws : List ℕ} (r : Replaceable
       abbrev target_row : Segment
       target_row = segment_at part at
 
-      over_target : block_over b.start (map_of c blocks) ≡ some target_row
+      over_target : block_over b.start (map_of c blocks) ≡ Some target_row
       over_target =
           let t : tiles 0 c.granules (segments_in m part) ≡ true = both_left _ _ freed_map in
           ap (block_over b.start) (sym freed_is)

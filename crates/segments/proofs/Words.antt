@@ -69,8 +69,8 @@ module _ (ws : List ℕ) (a : ℕ) (h : a ≤ length ws) where
 
   part_back : (part : List ℕ) → put_mid a (length ws - a) ws part ≡ take a ws ++ part
   part_back part =
-      let none : drop (length ws - a) (drop a ws) ≡ [] = drop_of_length-le (drop a ws) {i = length ws - a} (omega (arith, length-drop a ws)) in
-      ap (λ (q : List ℕ). take a ws ++ (part ++ q)) none ∙ ap (λ (q : List ℕ). take a ws ++ q) (append-nil part)
+      let None : drop (length ws - a) (drop a ws) ≡ [] = drop_of_length-le (drop a ws) {i = length ws - a} (omega (arith, length-drop a ws)) in
+      ap (λ (q : List ℕ). take a ws ++ (part ++ q)) None ∙ ap (λ (q : List ℕ). take a ws ++ q) (append-nil part)
 
 -- the words of rows of which some were replaced
 words_replaced : (n : ℕ) (ws : List ℕ) (i k : ℕ) (new : List Segment) (t : List ℕ) → 4 * n ≤ length ws → i + k ≤ n

@@ -1,7 +1,6 @@
 -- What is looked for in the rows: the row of a granule, the place that first fit names, and the start of a block with another length.
 -- Assumes nothing.
-use Rattle.std.specs.Prelude.{◌≡◌, ℕ, ◌+◌, ◌<◌, ◌≤◌, true, List}
-use Rattle.std.proofs.Math.Option.{Option, none, some}
+use Rattle.std.specs.Prelude.{◌≡◌, ℕ, ◌+◌, ◌<◌, ◌≤◌, true, List, Option, None, Some}
 use Rattle.model.specs.Choose.{choose}
 use Rattle.model.specs.Quantities.{Config}
 use Rattle.model.specs.Allocation.{room, lowest_start, offset, has_granule, without}
@@ -18,8 +17,8 @@ pub record RowOf (n x : ℕ) (ws : List ℕ) (row : ℕ) : Type 0 where
 
 -- The start of a fit.
 abbrev pub start_of : Fit → Option ℕ
-start_of (fit.At row start) = some start
-start_of fit.Nothing = none
+start_of (fit.At row start) = Some start
+start_of fit.Nothing = None
 
 -- A row in use is free, and has g granules from s on.
 pub record Room (n g : ℕ) (ws : List ℕ) (row s : ℕ) : Type 0 where
@@ -45,4 +44,4 @@ others n i ws = without (offset (segment_at ws i)) (blocks_in n ws)
 -- The block in row i of n with g granules starts where it does if there is room beside the other blocks, else at the lowest start clear of all, if there is one.
 abbrev pub refit_start : Config → ℕ → ℕ → ℕ → List ℕ → Option ℕ
 refit_start c n i g ws =
-    choose (room c (others n i ws) g (segment_at ws i).start) (some (segment_at ws i).start) (lowest_start c (blocks_in n ws) g 16)
+    choose (room c (others n i ws) g (segment_at ws i).start) (Some (segment_at ws i).start) (lowest_start c (blocks_in n ws) g 16)

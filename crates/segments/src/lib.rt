@@ -17,7 +17,7 @@ ghost use Rattle.segments.specs.Steps.{opened, closed, padding, none_counted, fo
 use model::{Segment, granules_with};
 
 // What first fit found: the row that has room and the start granule, or that no start serves.
-#[derive(Clone, Copy)]
+#[derive(Clone, Copy, Debug, PartialEq, Eq)]
 pub enum Fit {
     At { row: usize, start: u32 },
     Nothing,
@@ -26,7 +26,7 @@ pub enum Fit {
 // What a pass over the rows has counted: whether the rows so far may begin a map (after the whole pass, whether they are one); the granule where they
 // end, and whether the last is free, which only the pass needs; the granules of the live blocks and of the longest free run; and for each of
 // owners 1 to 8 the number of its live blocks, and their granules.
-#[derive(Clone, Copy)]
+#[derive(Clone, Copy, Debug, PartialEq, Eq)]
 pub struct Census {
     pub ok: bool,
     pub end: u32,

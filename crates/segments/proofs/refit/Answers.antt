@@ -1,7 +1,7 @@
 -- `segments::refit` meets its contract.
 -- Assumes nothing.
 use Rattle.std.proofs.Common.{refl, ap, ◌∙◌, arith}
-use mathlib.Core.Option.{some}
+use Rattle.std.specs.Prelude.{Some}
 use Rattle.model.proofs.BaseLaws.{at_base}
 use Rattle.segments.proofs.Finding.{row_inside}
 use Rattle.segments.proofs.Around.{refit_stays, refit_goes}
@@ -16,7 +16,7 @@ overflow_add-s c =
 
 pub returns-then-s-need : goal.returns-then-s-need
 returns-then-s-need c k whole small map live =
-    ap some (ap (λ (x : Segment). x.start) c.row-s.ensures)
+    ap Some (ap (λ (x : Segment). x.start) c.row-s.ensures)
     ∙ refit_stays k _ _ _ c.requires.0 map live c.args.need (omega (arith, ap (λ (x : Segment). x.start) c.row-s.ensures))
 
 pub returns : goal.returns
