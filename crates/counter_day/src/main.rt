@@ -7,8 +7,8 @@ mod day;
 mod step;
 
 use heap::Heap;
-use model::{Freed, Plan, Resized};
-use printing::{Answer, Making, carry_out, write};
+use model::{Plan, Refusal, Resized};
+use printing::{Granted, Making, Shown, carry_out, write};
 use std::io;
 use step::Step;
 
@@ -34,7 +34,7 @@ impl<'a, R: Print> Counter<'a, R> {
         };
         let out = heap::init(&mut arena, &mut table, plan);
         let making = Making {
-            made: out.made,
+            answer: out.answer,
             bytes: arena.len(),
         };
         println!(rt; "init 512 bytes 17 rows: {making}")?;
@@ -63,11 +63,11 @@ impl<'a, R: Print> Counter<'a, R> {
                     task.owner(),
                     call,
                 );
-                println!(self.rt; "{task} {call}: {}", as_returned(answer))
+                println!(self.rt; "{task} {call}: {}", Shown(as_returned(answer)))
             }
             Step::Totals => {
-                let totals = Answer::Totals(driver::totals(&self.heap, &self.table));
-                println!(self.rt; "totals: {totals}")
+                let totals = driver::totals(&self.heap, &self.table);
+                println!(self.rt; "totals: {}", Shown(totals.map(Granted::Totals)))
             }
             Step::Write(value, at) => {
                 write(&mut self.arena, 1, value, at);
@@ -82,9 +82,9 @@ impl<'a, R: Print> Counter<'a, R> {
 }
 
 // The bytes that a resize to size 0 gives back are printed as those that a free gives back.
-fn as_returned(answer: Answer) -> Answer {
+fn as_returned(answer: Result<Granted, Refusal>) -> Result<Granted, Refusal> {
     match answer {
-        Answer::Resized(Resized::Freed(bytes)) => Answer::Freed(Freed::Bytes(bytes)),
+        Ok(Granted::Resized(Resized::Freed(bytes))) => Ok(Granted::Bytes(bytes)),
         other => other,
     }
 }

@@ -2,7 +2,7 @@
 
 use heap::Heap;
 use model::Plan;
-use printing::{Answer, Bytes, Call, Making, Rows, trace, write};
+use printing::{Bytes, Call, Granted, Making, Rows, Shown, trace, write};
 use std::io;
 
 /// One step of a case.
@@ -105,7 +105,7 @@ impl<'r, 'a, R: Print> Stand<'r, 'a, R> {
         let out = heap::init(self.arena, self.table, plan);
         self.heap = out.heap;
         let making = Making {
-            made: out.made,
+            answer: out.answer,
             bytes,
         };
         let guards = u8::from(guarded);
@@ -128,8 +128,8 @@ impl<'r, 'a, R: Print> Stand<'r, 'a, R> {
     }
 
     fn print_totals(&self) -> io::Result<()> {
-        let totals = Answer::Totals(driver::totals(&self.heap, self.table));
-        println!(self.rt; "totals: {totals}")
+        let totals = driver::totals(&self.heap, self.table);
+        println!(self.rt; "totals: {}", Shown(totals.map(Granted::Totals)))
     }
 
     fn print_record(&self) -> io::Result<()> {

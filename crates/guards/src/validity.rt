@@ -3,8 +3,8 @@
 use crate::stand::Stand;
 use crate::stand::Step::{self, By, Guards, Init, Totals};
 use heap::Heap;
-use printing::Answer;
 use printing::Call::{Alloc, Free, Realloc};
+use printing::{Granted, Shown};
 use std::io;
 
 /// A guard number that is neither 0 nor 1 or is not the heap's, and then rows that no guarded heap has beside those that one has.
@@ -58,6 +58,6 @@ fn totals_with_row(rt: &impl Print, heap: Heap, length: u32, requested: u32) -> 
         peak: 3,
         ..heap
     };
-    let totals = Answer::Totals(driver::totals(&with_row, &table));
-    println!(rt; "totals: {totals}")
+    let totals = driver::totals(&with_row, &table);
+    println!(rt; "totals: {}", Shown(totals.map(Granted::Totals)))
 }

@@ -1,21 +1,23 @@
 -- What each call of a task answers and leaves: what the heap's call that it stands for does. s is the record and the table that it is handed, o its owner.
 -- Assumes nothing.
-use Rattle.std.specs.Prelude.{ℕ, List}
+use Rattle.std.specs.Prelude.{ℕ, List, Result}
+use Rattle.std.specs.Result.{result_map_both}
 use Rattle.heap.specs.Stored.{Stored}
 use Rattle.heap.specs.Calls as calls
 use Rattle.printing.specs.declared.calls.Call.{Call}
 use Rattle.printing.specs.declared.calls.Call.TheVariants.{Alloc, AllocAligned, Free, Realloc, BlockSize, Holding}
-use Rattle.printing.specs.declared.answers.Answer.{Answer}
-use Rattle.printing.specs.declared.answers.Answer.TheVariants as answer
+use Rattle.model.specs.declared.Refusal.{Refusal}
+use Rattle.printing.specs.declared.answers.Granted.{Granted}
+use Rattle.printing.specs.declared.answers.Granted.TheVariants as granted
 
--- The call answers as the heap's does.
-abbrev pub answer_to : Stored → List ℕ → ℕ → Call → Answer
-answer_to s bytes o (Alloc n) = answer.Placed (calls.alloc s bytes o n)
-answer_to s bytes o (AllocAligned n a) = answer.Placed (calls.alloc_aligned s bytes o n a)
-answer_to s bytes o (Free x) = answer.Freed (calls.free s bytes o x)
-answer_to s bytes o (Realloc x n) = answer.Resized (calls.realloc s bytes o x n)
-answer_to s bytes o (BlockSize x) = answer.BlockSize (calls.block_size s o x)
-answer_to s bytes o Holding = answer.Holding (calls.holding_of s o)
+-- The call answers as the heap's does; a value says which call it is of.
+abbrev pub answer_to : Stored → List ℕ → ℕ → Call → Result Granted Refusal
+answer_to s bytes o (Alloc n) = result_map_both granted.At (λ why. why) (calls.alloc s bytes o n)
+answer_to s bytes o (AllocAligned n a) = result_map_both granted.At (λ why. why) (calls.alloc_aligned s bytes o n a)
+answer_to s bytes o (Free x) = result_map_both granted.Bytes (λ why. why) (calls.free s bytes o x)
+answer_to s bytes o (Realloc x n) = result_map_both granted.Resized (λ why. why) (calls.realloc s bytes o x n)
+answer_to s bytes o (BlockSize x) = result_map_both granted.BlockSize (λ why. why) (calls.block_size s o x)
+answer_to s bytes o Holding = result_map_both granted.Holding (λ why. why) (calls.holding_of s o)
 
 -- It leaves the record and the table that the heap's leaves; an enquiry leaves them as they were.
 abbrev pub after_call : Stored → List ℕ → ℕ → Call → Stored

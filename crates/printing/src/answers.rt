@@ -1,66 +1,72 @@
 //! What calls answer, as it is printed: `ok` and the values, or `no` and the number of the refusal.
 
-use model::{BlockSize, Freed, Holding, Made, Placed, Resized, Totals};
+use model::{BlockSize, Holding, InitRefusal, Refusal, Resized, Totals};
 use std::fmt;
 
-/// What a call on a heap answers.
-#[derive(Clone, Copy)]
-pub enum Answer {
-    Placed(Placed),
-    Freed(Freed),
+/// What a call that is not refused answers.
+#[derive(Clone, Copy, Debug, PartialEq, Eq)]
+pub enum Granted {
+    /// The offset of a block that is lent.
+    At(u32),
+    /// The bytes that came back.
+    Bytes(u32),
     Resized(Resized),
     BlockSize(BlockSize),
     Holding(Holding),
     Totals(Totals),
 }
 
-/// The bytes given back by a resize to size 0 are told from an offset.
-impl fmt::Display for Answer {
+/// The bytes that come back from a resize to size 0 are told from an offset.
+impl fmt::Display for Granted {
     fn fmt<W: fmt::Write>(&self, f: &mut fmt::Formatter<W>) -> fmt::Result {
         match *self {
-            Answer::Placed(Placed::At(value))
-            | Answer::Freed(Freed::Bytes(value))
-            | Answer::Resized(Resized::At(value)) => write!(f, "ok {value}"),
-            Answer::Resized(Resized::Freed(bytes)) => write!(f, "ok {bytes} bytes"),
-            Answer::BlockSize(BlockSize::Bytes { requested, held }) => {
-                write!(f, "ok requested {requested} held {held}")
+            Granted::At(value) | Granted::Bytes(value) | Granted::Resized(Resized::At(value)) => {
+                write!(f, "{value}")
             }
-            Answer::Holding(Holding::Of { blocks, bytes }) => {
-                write!(f, "ok blocks {blocks} bytes {bytes}")
+            Granted::Resized(Resized::Freed(bytes)) => write!(f, "{bytes} bytes"),
+            Granted::BlockSize(BlockSize { requested, held }) => {
+                write!(f, "requested {requested} held {held}")
             }
-            Answer::Totals(
-                Totals::Bytes {
+            Granted::Holding(Holding { blocks, bytes }) => {
+                write!(f, "blocks {blocks} bytes {bytes}")
+            }
+            Granted::Totals(
+                Totals {
                     used,
                     free,
                     peak,
                     longest,
                 },
-            ) => write!(
-                f,
-                "ok used {used} free {free} peak {peak} longest {longest}"
-            ),
-            Answer::Placed(Placed::Refused(why))
-            | Answer::Freed(Freed::Refused(why))
-            | Answer::Resized(Resized::Refused(why))
-            | Answer::BlockSize(BlockSize::Refused(why))
-            | Answer::Holding(Holding::Refused(why))
-            | Answer::Totals(Totals::Refused(why)) => write!(f, "no {}", model::number(why)),
+            ) => write!(f, "used {used} free {free} peak {peak} longest {longest}"),
         }
     }
 }
 
-/// What a making answers. That has no value: what is printed is the arena's length in bytes.
-#[derive(Clone, Copy)]
+/// A call's answer as it is printed.
+#[derive(Clone, Copy, Debug, PartialEq, Eq)]
+pub struct Shown(pub Result<Granted, Refusal>);
+
+impl fmt::Display for Shown {
+    fn fmt<W: fmt::Write>(&self, f: &mut fmt::Formatter<W>) -> fmt::Result {
+        match self.0 {
+            Ok(granted) => write!(f, "ok {granted}"),
+            Err(why) => write!(f, "no {}", why.number()),
+        }
+    }
+}
+
+/// A making's answer as it is printed. It has no value: what is printed is the arena's length in bytes.
+#[derive(Clone, Copy, Debug, PartialEq, Eq)]
 pub struct Making {
-    pub made: Made,
+    pub answer: Result<(), InitRefusal>,
     pub bytes: usize,
 }
 
 impl fmt::Display for Making {
     fn fmt<W: fmt::Write>(&self, f: &mut fmt::Formatter<W>) -> fmt::Result {
-        match self.made {
-            Made::Done => write!(f, "ok {}", self.bytes),
-            Made::Refused(why) => write!(f, "no {}", model::init_number(why)),
+        match self.answer {
+            Ok(()) => write!(f, "ok {}", self.bytes),
+            Err(why) => write!(f, "no {}", why.number()),
         }
     }
 }

@@ -4,8 +4,9 @@ ghost use Rattle.std.specs.Prelude.{◌≡◌};
 ghost use Rattle.heap.specs.Stored.{handed};
 ghost use Rattle.printing.specs.Lending.{answer_to, after_call, arena_after_call};
 
-use crate::answers::Answer;
+use crate::answers::{Granted, Shown};
 use heap::Heap;
+use model::Refusal;
 use std::{fmt, io};
 
 /// A task's call on its heap; the number of the task's owner stands beside it. `at` is a block's offset, `to` its new size and `on` an alignment, all in
@@ -40,24 +41,25 @@ pub fn carry_out(
     arena: &mut [u8],
     owner: u32,
     call: Call,
-) -> Answer
+) -> Result<Granted, Refusal>
     ensures answer { result ≡ answer_to (handed heap.old table.old) arena.old owner call }
     ensures heap { heap.new ≡ (after_call (handed heap.old table.old) arena.old owner call).heap }
     ensures table { table.new ≡ (after_call (handed heap.old table.old) arena.old owner call).words }
     ensures arena { arena.new ≡ arena_after_call (handed heap.old table.old) arena.old owner call }
 {
-    match call {
-        Call::Alloc { size } => Answer::Placed(driver::alloc(heap, table, arena, owner, size)),
+    let granted = match call {
+        Call::Alloc { size } => Granted::At(driver::alloc(heap, table, arena, owner, size)?),
         Call::AllocAligned { size, on } => {
-            Answer::Placed(driver::alloc_aligned(heap, table, arena, owner, size, on))
+            Granted::At(driver::alloc_aligned(heap, table, arena, owner, size, on)?)
         }
-        Call::Free { at } => Answer::Freed(driver::free(heap, table, arena, owner, at)),
+        Call::Free { at } => Granted::Bytes(driver::free(heap, table, arena, owner, at)?),
         Call::Realloc { at, to } => {
-            Answer::Resized(driver::realloc(heap, table, arena, owner, at, to))
+            Granted::Resized(driver::realloc(heap, table, arena, owner, at, to)?)
         }
-        Call::BlockSize { at } => Answer::BlockSize(driver::block_size(heap, table, owner, at)),
-        Call::Holding => Answer::Holding(driver::holding(heap, table, owner)),
-    }
+        Call::BlockSize { at } => Granted::BlockSize(driver::block_size(heap, table, owner, at)?),
+        Call::Holding => Granted::Holding(driver::holding(heap, table, owner)?),
+    };
+    Ok(granted)
 }
 
 /// Carries a call out as `carry_out` does, and prints it with its answer. If the printing fails the call has been carried out all the same.
@@ -73,6 +75,6 @@ pub fn trace(
     ensures table { table.new ≡ (after_call (handed heap.old table.old) arena.old owner call).words }
     ensures arena { arena.new ≡ arena_after_call (handed heap.old table.old) arena.old owner call }
 {
-    let answer = carry_out(heap, table, arena, owner, call);
+    let answer = Shown(carry_out(heap, table, arena, owner, call));
     println!(rt; "owner {owner} {call}: {answer}")
 }

@@ -5,6 +5,6 @@ mod answers;
 mod calls;
 mod memory;
 
-pub use answers::{Answer, Making};
+pub use answers::{Granted, Making, Shown};
 pub use calls::{Call, carry_out, trace};
 pub use memory::{Bytes, Rows, write};

@@ -2,7 +2,7 @@
 
 use heap::Heap;
 use model::Plan;
-use printing::{Answer, Bytes, Call, Making, Rows, trace, write};
+use printing::{Bytes, Call, Granted, Making, Rows, Shown, trace, write};
 use std::io;
 
 /// One step of a case.
@@ -42,7 +42,7 @@ impl<'a, R: Print> Stand<'a, R> {
         };
         let out = heap::init(&mut arena, &mut table, plan);
         let making = Making {
-            made: out.made,
+            answer: out.answer,
             bytes: arena.len(),
         };
         println!(rt; "init 256 bytes 8 rows: {making}")?;
@@ -75,8 +75,8 @@ impl<'a, R: Print> Stand<'a, R> {
             }
             Step::Show => self.show(),
             Step::Totals => {
-                let totals = Answer::Totals(driver::totals(&self.heap, &self.table));
-                println!(self.rt; "totals: {totals}")
+                let totals = driver::totals(&self.heap, &self.table);
+                println!(self.rt; "totals: {}", Shown(totals.map(Granted::Totals)))
             }
         }
     }
