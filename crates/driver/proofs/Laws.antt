@@ -6,7 +6,7 @@ use Rattle.heap.specs.Stored.{Stored, handed}
 use Rattle.heap.specs.Promises.{AllocDone, FreeDone, ReallocDone}
 use Rattle.heap.proofs.Laws.{alloc_refused, free_refused}
 use Rattle.heap.proofs.ReallocLaws.{realloc_refused}
-use Rattle.heap.specs.declared.Heap.{Heap}
+use Rattle.heap.specs.declared.record.Heap.{Heap}
 use Rattle.model.specs.declared.Refusal.{Refusal}
 use Rattle.model.specs.declared.Resized.TheVariants as resized
 

@@ -1,13 +1,45 @@
-// The drivers' layer: the heap's record is lent, and updated where it stands. Each call does what the one of `heap` with the same name does: the same
-// answer, and the same record, words and bytes afterwards. Making is not here, since there is no record yet to lend.
+//! The drivers' layer: the heap's record is lent, and updated where it stands. Each call does what the one of `heap` with the same name does: the same
+//! answer, and the same record, words and bytes afterwards. Making is not here, since there is no record yet to lend.
 #![tactic(auto)]
 
-ghost use Rattle.heap.specs.Promises.{AllocDone, FreeDone, ReallocDone, BlockSizeDone, TotalsDone, HoldingDone};
+ghost use Rattle.std.specs.Prelude.{◌≡◌};
+ghost use Rattle.model.specs.Numbers.{value_numbered, resized_numbered, size_numbered, totals_numbered, holding_numbered};
+ghost use Rattle.heap.specs.Stored.{handed};
+ghost use Rattle.heap.specs.Calls as calls;
 
-use heap::{Heap, Outcome};
+use heap::Heap;
 use model::{BlockSize, Holding, Refusal, Resized, Totals};
 
-// Lends `size` bytes to `owner` on a boundary of 16 bytes, and answers the byte offset; if the heap has guards, the block's is filled.
+/// The record for the core, built of the fields of the one that is lent.
+fn record_of(heap: &Heap) -> Heap
+    ensures { result ≡ heap.now }
+{
+    let Heap {
+        capacity,
+        rows,
+        granules,
+        base,
+        guards,
+        used,
+        peak,
+        granule_quotas,
+        block_quotas,
+    } = *heap;
+    Heap {
+        capacity,
+        rows,
+        granules,
+        base,
+        guards,
+        used,
+        peak,
+        granule_quotas,
+        block_quotas,
+    }
+}
+
+/// Lends `size` bytes to `owner` on a boundary of 16 bytes, and answers the byte offset; if the heap has guards, the block's is filled. Refused with 1, 11
+/// in a heap with guards, 2, 3, 5 to 8, in this order.
 pub fn alloc(
     heap: &mut Heap,
     table: &mut [u32],
@@ -15,14 +47,20 @@ pub fn alloc(
     owner: u32,
     size: u32,
 ) -> Result<u32, Refusal>
-    ensures { AllocDone heap.old table.old arena.old owner size 16 (record { answer = result; heap = heap.new }) table.new arena.new }
+    ensures answer { result ≡ calls.alloc (handed heap.old table.old) arena.old owner size }
+    ensures numbered { value_numbered result ≡ calls.numbered_alloc (handed heap.old table.old) arena.old owner size 16 }
+
+    ensures heap { heap.new ≡ (calls.after_alloc (handed heap.old table.old) arena.old owner size).heap }
+    ensures table { table.new ≡ (calls.after_alloc (handed heap.old table.old) arena.old owner size).words }
+    ensures arena { arena.new ≡ calls.arena_after_alloc_aligned (handed heap.old table.old) arena.old owner size 16 }
 {
-    let out = heap::alloc(*heap, table, arena, owner, size);
+    let out = record_of(heap).alloc(table, arena, owner, size);
     *heap = out.heap;
     out.answer
 }
 
-// Lends `size` bytes to `owner`, and answers the byte offset: the record's base plus the offset is a multiple of `align`. Guards are as in `alloc`.
+/// Lends `size` bytes to `owner`, and answers the byte offset: the record's base plus the offset is a multiple of `align`. Guards are as in `alloc`. Refused
+/// with 1, 11 in a heap with guards, 2 to 8, in this order.
 pub fn alloc_aligned(
     heap: &mut Heap,
     table: &mut [u32],
@@ -31,14 +69,20 @@ pub fn alloc_aligned(
     size: u32,
     align: u32,
 ) -> Result<u32, Refusal>
-    ensures { AllocDone heap.old table.old arena.old owner size align (record { answer = result; heap = heap.new }) table.new arena.new }
+    ensures answer { result ≡ calls.alloc_aligned (handed heap.old table.old) arena.old owner size align }
+    ensures numbered { value_numbered result ≡ calls.numbered_alloc (handed heap.old table.old) arena.old owner size align }
+
+    ensures heap { heap.new ≡ (calls.after_alloc_aligned (handed heap.old table.old) arena.old owner size align).heap }
+    ensures table { table.new ≡ (calls.after_alloc_aligned (handed heap.old table.old) arena.old owner size align).words }
+    ensures arena { arena.new ≡ calls.arena_after_alloc_aligned (handed heap.old table.old) arena.old owner size align }
 {
-    let out = heap::alloc_aligned(*heap, table, arena, owner, size, align);
+    let out = record_of(heap).alloc_aligned(table, arena, owner, size, align);
     *heap = out.heap;
     out.answer
 }
 
-// Takes the block of `owner` at byte `offset` back, zeroes its bytes and answers how many they are.
+/// Takes the block of `owner` at byte `offset` back, sets its bytes to zero, and answers how many they are. Refused with 1, 11, 2, 15, 16, 17, 9, 10, 19,
+/// in this order.
 pub fn free(
     heap: &mut Heap,
     table: &mut [u32],
@@ -46,14 +90,20 @@ pub fn free(
     owner: u32,
     offset: u32,
 ) -> Result<u32, Refusal>
-    ensures { FreeDone heap.old table.old arena.old owner offset (record { answer = result; heap = heap.new }) table.new arena.new }
+    ensures answer { result ≡ calls.free (handed heap.old table.old) arena.old owner offset }
+    ensures numbered { value_numbered result ≡ calls.numbered_free (handed heap.old table.old) arena.old owner offset }
+
+    ensures heap { heap.new ≡ (calls.after_free (handed heap.old table.old) arena.old owner offset).heap }
+    ensures table { table.new ≡ (calls.after_free (handed heap.old table.old) arena.old owner offset).words }
+    ensures arena { arena.new ≡ calls.arena_after_free (handed heap.old table.old) arena.old owner offset }
 {
-    let out = heap::free(*heap, table, arena, owner, offset);
+    let out = record_of(heap).free(table, arena, owner, offset);
     *heap = out.heap;
     out.answer
 }
 
-// Resizes the block of `owner` at byte `offset` to `size` bytes, and answers the byte offset it has then; to size 0 it is a free and answers as one.
+/// Resizes the block of `owner` at byte `offset` to `size` bytes, and answers the byte offset it has then; to size 0 it is a free and answers as one.
+/// Refused with 1, 11, 2, 15, 16, 17, 9, 10, 19, 6, 7, 8, in this order.
 pub fn realloc(
     heap: &mut Heap,
     table: &mut [u32],
@@ -62,126 +112,38 @@ pub fn realloc(
     offset: u32,
     size: u32,
 ) -> Result<Resized, Refusal>
-    ensures { ReallocDone heap.old table.old arena.old owner offset size (record { answer = result; heap = heap.new }) table.new arena.new }
+    ensures answer { result ≡ calls.realloc (handed heap.old table.old) arena.old owner offset size }
+    ensures numbered { resized_numbered result ≡ calls.numbered_realloc (handed heap.old table.old) arena.old owner offset size }
+
+    ensures heap { heap.new ≡ (calls.after_realloc (handed heap.old table.old) arena.old owner offset size).heap }
+    ensures table { table.new ≡ (calls.after_realloc (handed heap.old table.old) arena.old owner offset size).words }
+    ensures arena { arena.new ≡ calls.arena_after_realloc (handed heap.old table.old) arena.old owner offset size }
 {
-    let out = heap::realloc(*heap, table, arena, owner, offset, size);
+    let out = record_of(heap).realloc(table, arena, owner, offset, size);
     *heap = out.heap;
     out.answer
 }
 
-// Answers the bytes requested and the bytes held of the block of `owner` at byte `offset`.
+/// The bytes requested and the bytes held of the block of `owner` at byte `offset`. Refused with 1, 2, 15, 16, 17, 9, 10, in this order.
 pub fn block_size(heap: &Heap, table: &[u32], owner: u32, offset: u32) -> Result<BlockSize, Refusal>
-    ensures { BlockSizeDone heap.now table.now owner offset result }
+    ensures answer { result ≡ calls.block_size (handed heap.now table.now) owner offset }
+    ensures numbered { size_numbered result ≡ calls.numbered_block_size (handed heap.now table.now) owner offset }
 {
-    heap::block_size(*heap, table, owner, offset)
+    record_of(heap).block_size(table, owner, offset)
 }
 
-// Answers used, free, peak and the longest free run, in bytes.
+/// Used, free, peak and the longest free run, in bytes. Refused with 1.
 pub fn totals(heap: &Heap, table: &[u32]) -> Result<Totals, Refusal>
-    ensures { TotalsDone heap.now table.now result }
+    ensures answer { result ≡ calls.totals_of (handed heap.now table.now) }
+    ensures numbered { totals_numbered result ≡ calls.numbered_totals (handed heap.now table.now) }
 {
-    heap::totals(*heap, table)
+    record_of(heap).totals(table)
 }
 
-// Answers how many live blocks `owner` has and how many bytes they hold.
+/// How many live blocks `owner` has, and how many bytes they hold. Refused with 1, 2, in this order.
 pub fn holding(heap: &Heap, table: &[u32], owner: u32) -> Result<Holding, Refusal>
-    ensures { HoldingDone heap.now table.now owner result }
+    ensures answer { result ≡ calls.holding_of (handed heap.now table.now) owner }
+    ensures numbered { holding_numbered result ≡ calls.numbered_holding (handed heap.now table.now) owner }
 {
-    heap::holding(*heap, table, owner)
-}
-
-// The calls above for a caller that keeps the record itself: each lends its own copy, and a mutating one gives the copy back
-// beside the answer.
-
-pub fn alloc_by_value(
-    heap: Heap,
-    table: &mut [u32],
-    arena: &mut [u8],
-    owner: u32,
-    size: u32,
-) -> Outcome<u32>
-    ensures { AllocDone heap table.old arena.old owner size 16 result table.new arena.new }
-{
-    let mut h = heap;
-    let answer = alloc(&mut h, table, arena, owner, size);
-    Outcome {
-        answer: answer,
-        heap: h,
-    }
-}
-
-pub fn alloc_aligned_by_value(
-    heap: Heap,
-    table: &mut [u32],
-    arena: &mut [u8],
-    owner: u32,
-    size: u32,
-    align: u32,
-) -> Outcome<u32>
-    ensures { AllocDone heap table.old arena.old owner size align result table.new arena.new }
-{
-    let mut h = heap;
-    let answer = alloc_aligned(&mut h, table, arena, owner, size, align);
-    Outcome {
-        answer: answer,
-        heap: h,
-    }
-}
-
-pub fn free_by_value(
-    heap: Heap,
-    table: &mut [u32],
-    arena: &mut [u8],
-    owner: u32,
-    offset: u32,
-) -> Outcome<u32>
-    ensures { FreeDone heap table.old arena.old owner offset result table.new arena.new }
-{
-    let mut h = heap;
-    let answer = free(&mut h, table, arena, owner, offset);
-    Outcome {
-        answer: answer,
-        heap: h,
-    }
-}
-
-pub fn realloc_by_value(
-    heap: Heap,
-    table: &mut [u32],
-    arena: &mut [u8],
-    owner: u32,
-    offset: u32,
-    size: u32,
-) -> Outcome<Resized>
-    ensures { ReallocDone heap table.old arena.old owner offset size result table.new arena.new }
-{
-    let mut h = heap;
-    let answer = realloc(&mut h, table, arena, owner, offset, size);
-    Outcome {
-        answer: answer,
-        heap: h,
-    }
-}
-
-pub fn block_size_by_value(
-    heap: Heap,
-    table: &[u32],
-    owner: u32,
-    offset: u32,
-) -> Result<BlockSize, Refusal>
-    ensures { BlockSizeDone heap table.now owner offset result }
-{
-    block_size(&heap, table, owner, offset)
-}
-
-pub fn totals_by_value(heap: Heap, table: &[u32]) -> Result<Totals, Refusal>
-    ensures { TotalsDone heap table.now result }
-{
-    totals(&heap, table)
-}
-
-pub fn holding_by_value(heap: Heap, table: &[u32], owner: u32) -> Result<Holding, Refusal>
-    ensures { HoldingDone heap table.now owner result }
-{
-    holding(&heap, table, owner)
+    record_of(heap).holding(table, owner)
 }

@@ -23,7 +23,7 @@ use Rattle.guarantee.specs.Guarantee.{state_after, stored_after}
 use Rattle.guarantee.specs.Performed.{Promised, Entry, Performed, calls_of}
 use Rattle.guarantee.specs.Cases.{arena, plan}
 use Rattle.guarantee.proofs.Performed.{performed_guaranteed}
-use Rattle.heap.specs.declared.Initialized.{Initialized}
+use Rattle.heap.specs.declared.record.Initialized.{Initialized}
 use Rattle.model.specs.declared.Plan.{Plan}
 
 -- Whatever the functions performed since a making that is not refused: an allocation that is granted x has its address, the plan's base plus x, on the boundary asked (16 if it names none), and its block, its guard included, ends at 4,294,967,296 at most.

@@ -27,7 +27,7 @@ use Rattle.model.proofs.GuardsKept.{OwnWhole, requested_apart, own_alloc, own_fr
 use Rattle.heap.specs.Stored.{Stored, handed, store}
 use Rattle.heap.specs.Calls as calls
 use Rattle.heap.specs.Promises.{InitDone}
-use Rattle.heap.proofs.Making.{init_range, fresh_kept}
+use Rattle.heap.proofs.Makes.{init_range, fresh_kept}
 use Rattle.guarantee.specs.Lists.{Call, alloc, alloc_aligned, free, realloc, block_size, totals, holding, by_rules, execute, numbered}
 use Rattle.guarantee.specs.Guarantee.{state_after, stored_after, Guaranteed}
 use Rattle.guarantee.specs.Performed.{Entry, Performed, calls_of}
@@ -35,7 +35,7 @@ use Rattle.guarantee.specs.Guards.{if_recorded, found, arena_after, caller, is_r
 use Rattle.guarantee.proofs.Steps.{keep, same, answers_same, leaves_same}
 use Rattle.guarantee.proofs.Guarantee.{kept_after, guarantee}
 use Rattle.guarantee.proofs.Performed.{performed_guaranteed}
-use Rattle.heap.specs.declared.Initialized.{Initialized}
+use Rattle.heap.specs.declared.record.Initialized.{Initialized}
 use Rattle.model.specs.declared.Segment.{Segment}
 use Rattle.model.specs.declared.Plan.{Plan}
 use Rattle.model.specs.declared.Refusal.TheVariants as refusal

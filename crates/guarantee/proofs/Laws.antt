@@ -12,7 +12,7 @@ use Rattle.model.proofs.Ordered.{Ordered}
 use Rattle.model.proofs.Disjoint as disjoint
 use Rattle.model.proofs.Disjoint.{has_byte}
 use Rattle.heap.specs.Calls.{init}
-use Rattle.heap.proofs.Making.{init_range, fresh_kept}
+use Rattle.heap.proofs.Makes.{init_range, fresh_kept}
 use Rattle.guarantee.specs.Lists.{Call}
 use Rattle.guarantee.specs.Guarantee.{state_after}
 use Rattle.guarantee.proofs.Guarantee.{kept_after}

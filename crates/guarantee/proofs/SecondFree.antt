@@ -30,7 +30,7 @@ use Rattle.heap.specs.Valid.{valid}
 use Rattle.heap.specs.Promises.{InitDone}
 use Rattle.heap.specs.Calls.{init, after_init, free, after_free, realloc, after_realloc, is_valid, config, state}
 use Rattle.heap.specs.Calls as heap_calls
-use Rattle.heap.proofs.Making.{init_range, init_leaves, fresh_kept}
+use Rattle.heap.proofs.Makes.{init_range, init_leaves, fresh_kept}
 use Rattle.guarantee.specs.Lists.{Call, alloc, alloc_aligned, free as return, realloc as resize, block_size, totals, holding, Answer, by_rules, execute}
 use Rattle.guarantee.specs.Guarantee.{state_after, stored_after}
 use Rattle.guarantee.specs.Performed.{Entry, Promised, Performed, calls_of}
@@ -43,7 +43,7 @@ use Rattle.model.specs.declared.Plan.{Plan}
 use Rattle.model.specs.declared.Refusal.TheVariants as refusal
 use Rattle.model.specs.declared.Resized.{Resized}
 use Rattle.model.specs.declared.Resized.TheVariants as resized
-use Rattle.heap.specs.declared.Initialized.{Initialized}
+use Rattle.heap.specs.declared.record.Initialized.{Initialized}
 use Rattle.model.specs.declared.Refusal.{Refusal}
 
 module _ (c : Config) (i : ℕ) where

@@ -10,7 +10,7 @@ use Rattle.heap.specs.Calls.{after_init}
 use Rattle.heap.specs.Promises.{InitDone, AllocDone, FreeDone, ReallocDone, BlockSizeDone, TotalsDone, HoldingDone}
 use Rattle.guarantee.specs.Lists.{Call, alloc, alloc_aligned, free, realloc, block_size, totals, holding, Answer, by_rules}
 use Rattle.guarantee.specs.Guarantee.{state_after, Entitled, Served, Guaranteed}
-use Rattle.heap.specs.declared.Initialized.{Initialized}
+use Rattle.heap.specs.declared.record.Initialized.{Initialized}
 use Rattle.model.specs.declared.Plan.{Plan}
 use Rattle.model.specs.declared.Refusal.{Refusal}
 

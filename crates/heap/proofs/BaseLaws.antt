@@ -26,13 +26,13 @@ use Rattle.heap.specs.Valid.{valid}
 use Rattle.heap.specs.Calls.{is_valid, config, state, afterwards, init, after_init, arena_after_init, alloc_aligned, after_alloc_aligned, arena_after_alloc_aligned, free, after_free, arena_after_free, realloc, after_realloc, arena_after_realloc, block_size, totals_of, holding_of}
 use Rattle.heap.specs.Promises.{AllocDone, ReallocDone}
 use Rattle.heap.proofs.ValidStored.{valid_range}
-use Rattle.heap.proofs.Making.{none_applies, init_leaves, init_range}
+use Rattle.heap.proofs.Makes.{none_applies, init_leaves, init_range}
 use Rattle.model.specs.declared.Plan.{Plan}
 use Rattle.model.specs.declared.Refusal.{Refusal}
 use Rattle.model.specs.declared.Resized.TheVariants as resized
-use Rattle.heap.specs.declared.Heap.{Heap}
+use Rattle.heap.specs.declared.record.Heap.{Heap}
 use Rattle.model.specs.declared.Resized.{Resized}
-use Rattle.heap.specs.declared.Outcome.{Outcome}
+use Rattle.heap.specs.declared.record.Outcome.{Outcome}
 
 -- Where the function of an allocation keeps its promise and answers the offset x:
 module _ (r : Heap) (ws arena : List ℕ) (o n a : ℕ) (out : Outcome ℕ) (words_after arena_after : List ℕ) (d : AllocDone r ws arena o n a out words_after arena_after)

@@ -19,7 +19,7 @@ use Rattle.heap.specs.Steps.{updated_of}
 use Rattle.heap.proofs.Conditions.{Conditions, valid_conditions}
 use Rattle.heap.proofs.ValidStored.{valid_map, table_rows_are}
 use Rattle.model.specs.declared.Segment.{Segment}
-use Rattle.heap.specs.declared.Heap.{Heap}
+use Rattle.heap.specs.declared.record.Heap.{Heap}
 
 -- A record is updated if its peak is the larger of what it was and what is used.
 pub updated_is : (r : Heap) (rows used peak : ℕ) → peak ≡ max r.peak used

@@ -23,9 +23,9 @@ use Rattle.model.specs.declared.Segment.{Segment}
 use Rattle.model.specs.declared.Refusal.{Refusal}
 use Rattle.model.specs.declared.Refusal.TheVariants as refusal
 use Rattle.model.specs.declared.Resized.TheVariants as resized
-use Rattle.heap.specs.declared.Heap.{Heap}
+use Rattle.heap.specs.declared.record.Heap.{Heap}
 use Rattle.model.specs.declared.Resized.{Resized}
-use Rattle.heap.specs.declared.Outcome.{Outcome}
+use Rattle.heap.specs.declared.record.Outcome.{Outcome}
 
 -- Where the function of an allocation keeps its promise:
 module _ (r : Heap) (ws bytes : List ℕ) (o n a : ℕ) (out : Outcome ℕ) (words_after bytes_after : List ℕ) (d : AllocDone r ws bytes o n a out words_after bytes_after) where

@@ -24,7 +24,7 @@ use Rattle.heap.specs.Stored.{Stored}
 use Rattle.heap.specs.Valid.{valid}
 use Rattle.heap.specs.Calls.{is_valid, config, state, alloc_aligned, after_alloc_aligned, arena_after_alloc_aligned, free, after_free, arena_after_free, block_size, totals_of, holding_of, init, after_init, arena_after_init, zero_heap}
 use Rattle.heap.proofs.ValidStored.{valid_kept}
-use Rattle.heap.proofs.Making.{none_applies, init_range, fresh_rows, fresh_table, zero_invalid, init_reason}
+use Rattle.heap.proofs.Makes.{none_applies, init_range, fresh_rows, fresh_table, zero_invalid, init_reason}
 use Rattle.model.specs.declared.Plan.{Plan}
 use Rattle.model.specs.declared.Refusal.{Refusal}
 use Rattle.model.specs.declared.Refusal.TheVariants as refusal

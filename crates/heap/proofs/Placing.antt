@@ -2,8 +2,8 @@
 -- Assumes nothing.
 use mathlib.Core.Path.{◌≡◌, refl, sym, ap, ◌∙◌, subst}
 use mathlib.Core.Bool.{true, false}
-use mathlib.Core.List.{List, ◌++◌}
-use Rattle.std.specs.Prelude.{None, Some, Ok, Err}
+use mathlib.Core.List.{List, [], ◌∷◌, ◌++◌}
+use Rattle.std.specs.Prelude.{Option, None, Some, Result, Ok, Err}
 use Prim.Native.Nat.{ℕ, ◌+◌, ◌*◌, ◌-◌, ◌≤◌, ◌<◌}
 use native.Mathlib.Omega.{arith}
 use lib.ListN.{length}
@@ -22,8 +22,6 @@ use Rattle.segments.specs.Rows.{segment_at, segments_in, blocks_in, Rewritten}
 use Rattle.segments.specs.Tiling.{is_map}
 use Rattle.segments.specs.Search.{Found}
 use Rattle.segments.specs.Changes.{replaced, cut}
-use Rattle.segments.specs.declared.Fit.{Fit}
-use Rattle.segments.specs.declared.Fit.TheVariants as found
 use Rattle.segments.proofs.Finding.{found_cut, found_count}
 use Rattle.heap.specs.Stored.{Stored, handed, store, config_of, state_in}
 use Rattle.heap.specs.Valid.{valid}
@@ -36,9 +34,8 @@ use Rattle.heap.proofs.Changing.{Bounds, bounds, stored_changed}
 use Rattle.model.specs.declared.Segment.{Segment}
 use Rattle.model.specs.declared.Refusal.{Refusal}
 use Rattle.model.specs.declared.Refusal.TheVariants as refusal
-use Rattle.heap.specs.declared.Heap.{Heap}
-use Rattle.heap.specs.declared.Place.{Place}
-use Rattle.heap.specs.declared.Place.TheVariants as place
+use Rattle.heap.specs.declared.record.Heap.{Heap}
+use Rattle.segments.specs.declared.searching.Place.{Place}
 
 -- 7 and 8, decided by what first fit says, of a valid heap and an allocation whose numbers are proper.
 module _ (r : Heap) (ws : List ℕ) (o n a : ℕ) where
@@ -47,39 +44,39 @@ module _ (r : Heap) (ws : List ℕ) (o n a : ℕ) where
 
   module _ (v : valid r ws ≡ true) (p : first_reason (request_order o n a) ≡ None) where
     -- What it says.
-    module _ (g : ℕ) (size : g ≡ needed (config_of r) n) (f : Fit)
+    module _ (g : ℕ) (size : g ≡ needed (config_of r) n) (f : Option Place)
         (w : (c : Config) → c.base ≡ r.base → c.granules ≤ 4294967295 → is_map c (segments_in r.rows ws) ≡ true → Found c r.rows g a ws f) where
       here : Found (config_of r) r.rows (needed (config_of r) n) a ws f
       here =
           subst (λ (k : ℕ). Found (config_of r) r.rows k a ws f) size
           (w (config_of r) refl (omega (arith, (bounds r ws v).granules)) (valid_map r ws v))
 
-      pub no_place_lem : f ≡ found.Nothing → first_reason last ≡ Some refusal.NoPlace
-      no_place_lem q = let z : Found (config_of r) r.rows (needed (config_of r) n) a ws found.Nothing = subst (Found (config_of r) r.rows (needed (config_of r) n) a ws) q here in rw z.lowest
+      pub no_place_lem : f ≡ None → first_reason last ≡ Some refusal.NoPlace
+      no_place_lem q = let z : Found (config_of r) r.rows (needed (config_of r) n) a ws None = subst (Found (config_of r) r.rows (needed (config_of r) n) a ws) q here in rw z.lowest
 
-      module _ (i s : ℕ) (q : f ≡ found.At i s) where
-        at : Found (config_of r) r.rows (needed (config_of r) n) a ws (found.At i s)
+      module _ (p' : Place) (q : f ≡ Some p') where
+        at : Found (config_of r) r.rows (needed (config_of r) n) a ws (Some p')
         at = subst (Found (config_of r) r.rows (needed (config_of r) n) a ws) q here
 
-        pub lowest_at : Lowest r ws n a i s
+        pub lowest_at : Lowest r ws n a p'.row p'.start
         lowest_at = record { lowest = at.lowest; room = at.room }
 
         abbrev asked : Segment
-        asked = block (config_of r) o n s
+        asked = block (config_of r) o n p'.start
 
-        module _ (x b : Segment) (row : x ≡ segment_at ws i) (is : b ≡ asked) (k : ℕ) (pieces : k ≡ length (cut x b)) where
+        module _ (x b : Segment) (row : x ≡ segment_at ws p'.row) (is : b ≡ asked) (k : ℕ) (pieces : k ≡ length (cut x b)) where
           count : rows_of (config_of r) (insert asked (blocks_in r.rows ws)) ≡ r.rows - 1 + k
           count =
               let l : Proper o n a = proper o n a (no_reason (request_order o n a) p) in
-              found_count (config_of r) r.rows (needed (config_of r) n) a ws i s asked (valid_map r ws v) at
+              found_count (config_of r) r.rows (needed (config_of r) n) a ws p' asked (valid_map r ws v) at
               (record { owned = l.owned; known = l.known; requested = l.size; sized = refl }) refl refl
               ∙ ap (λ (k : ℕ). r.rows - 1 + k) (sym (pieces ∙ (λ j. length (cut (row j) (is j)))))
 
           pub table_full_lem : r.capacity < r.rows - 1 + k → first_reason last ≡ Some refusal.TableFull
-          table_full_lem h = rw (fit_at (config_of r) (state_in r ws) o n a s at.lowest, lt-ltb r.capacity (rows_of (config_of r) (insert asked (blocks_in r.rows ws))) (omega (arith, count)))
+          table_full_lem h = rw (fit_at (config_of r) (state_in r ws) o n a p'.start at.lowest, lt-ltb r.capacity (rows_of (config_of r) (insert asked (blocks_in r.rows ws))) (omega (arith, count)))
 
-          pub place_there : r.rows - 1 + k ≤ r.capacity → Decided last r ws n a (place.At i s)
-          place_there h = (rw (fit_at (config_of r) (state_in r ws) o n a s at.lowest, le-ltb r.capacity (rows_of (config_of r) (insert asked (blocks_in r.rows ws))) (omega (arith, count))), lowest_at)
+          pub place_there : r.rows - 1 + k ≤ r.capacity → Decided last r ws n a (Ok p')
+          place_there h = (rw (fit_at (config_of r) (state_in r ws) o n a p'.start at.lowest, le-ltb r.capacity (rows_of (config_of r) (insert asked (blocks_in r.rows ws))) (omega (arith, count))), lowest_at)
 
 module _ (r : Heap) (ws bytes : List ℕ) (o n a : ℕ) where
   abbrev whole : Order Refusal
@@ -90,51 +87,62 @@ module _ (r : Heap) (ws bytes : List ℕ) (o n a : ℕ) where
   unfolding alloc_order
   decided_1 v = rw v
 
+  -- A refusal is decided by its reason.
+  pub decided_not : (p : Result Place Refusal) (why : Refusal) → p ≡ Err why → first_reason whole ≡ Some why → Decided whole r ws n a p
+  decided_not p why q e = subst (Decided whole r ws n a) (sym q) e
+
+  abbrev pub lent : Order Refusal
+  lent = other_guarded_arena (config_of r) bytes ∷ []
+
+  abbrev request : Order Refusal
+  request = request_order o n a
+
+  abbrev pub quotas : Order Refusal
+  quotas = quota_order (config_of r) (state_in r ws) o n
+
   module _ (v : valid r ws ≡ true) where
-    -- 11, of a heap with guards
-    pub decided_11 : (other_guarded_arena (config_of r) bytes).0 ≡ true → first_reason whole ≡ Some refusal.ArenaLength
+    parts : first_reason whole ≡ first_reason (lent ++ (request ++ (quotas ++ last r ws o n a)))
     unfolding alloc_order
-    decided_11 q = rw (v, q)
+    parts = rw v
 
-    abbrev later : Order Refusal
-    later = quota_order (config_of r) (state_in r ws) o n ++ last r ws o n a
+    -- 11, of a heap with guards,
+    pub decided_11 : (why : Refusal) → first_reason lent ≡ Some why → first_reason whole ≡ Some why
+    decided_11 why e = parts ∙ first_stays lent (request ++ (quotas ++ last r ws o n a)) why e
 
-    -- and to a valid heap with its arena the others, in their order
-    others : (other_guarded_arena (config_of r) bytes).0 ≡ false → first_reason whole ≡ first_reason (request_order o n a ++ later)
-    unfolding alloc_order
-    others lent = rw (v, lent)
+    module _ (l : first_reason lent ≡ None) where
+      -- 2, 3 or 4,
+      pub decided_proper : (why : Refusal) → first_reason request ≡ Some why → first_reason whole ≡ Some why
+      decided_proper why e = parts ∙ first_then lent (request ++ (quotas ++ last r ws o n a)) l ∙ first_stays request (quotas ++ last r ws o n a) why e
 
-    -- 2, 3 or 4
-    pub decided_proper : (other_guarded_arena (config_of r) bytes).0 ≡ false → (why : Refusal) → first_reason (request_order o n a) ≡ Some why → first_reason whole ≡ Some why
-    decided_proper lent why e = others lent ∙ first_stays (request_order o n a) later why e
+      module _ (p : first_reason request ≡ None) where
+        -- 5 or 6,
+        pub decided_quotas : (why : Refusal) → first_reason quotas ≡ Some why → first_reason whole ≡ Some why
+        decided_quotas why e = parts ∙ first_then lent (request ++ (quotas ++ last r ws o n a)) l ∙ first_then request (quotas ++ last r ws o n a) p ∙ first_stays quotas (last r ws o n a) why e
 
-    module _ (p : first_reason (request_order o n a) ≡ None) where
-      module _ (lent : (other_guarded_arena (config_of r) bytes).0 ≡ false) where
-        -- 5 or 6
-        pub decided_quotas : (why : Refusal) → first_reason (quota_order (config_of r) (state_in r ws) o n) ≡ Some why → first_reason whole ≡ Some why
-        decided_quotas why e =
-            others lent ∙ first_then (request_order o n a) later p ∙ first_stays (quota_order (config_of r) (state_in r ws) o n) (last r ws o n a) why e
-
-        -- 7, 8 or a place
-        module _ (q : first_reason (quota_order (config_of r) (state_in r ws) o n) ≡ None) where
+        -- 7, 8 or a place.
+        module _ (q : first_reason quotas ≡ None) where
           rest : first_reason whole ≡ first_reason (last r ws o n a)
-          rest =
-              others lent ∙ first_then (request_order o n a) later p
-              ∙ first_then (quota_order (config_of r) (state_in r ws) o n) (last r ws o n a) q
+          rest = parts ∙ first_then lent (request ++ (quotas ++ last r ws o n a)) l ∙ first_then request (quotas ++ last r ws o n a) p ∙ first_then quotas (last r ws o n a) q
 
-          pub decided_place : (d : Place) → Decided (last r ws o n a) r ws n a d → Decided whole r ws n a d
-          decided_place (place.Refused why) e = rest ∙ e
-          decided_place (place.At row start) e = (rest ∙ e.0, e.1)
+          pub decided_place : (d : Result Place Refusal) → Decided (last r ws o n a) r ws n a d → Decided whole r ws n a d
+          decided_place (Err why) e = rest ∙ e
+          decided_place (Ok at) e = (rest ∙ e.0, e.1)
 
   -- Refused, it leaves all as it was.
-  pub alloc_not : (p : Place) → Decided whole r ws n a p → (why : Refusal) → p ≡ place.Refused why → AllocDone r ws bytes o n a (record { answer = Err why; heap = r }) ws bytes
+  pub alloc_not : (p : Result Place Refusal) → Decided whole r ws n a p → (why : Refusal) → p ≡ Err why → AllocDone r ws bytes o n a (record { answer = Err why; heap = r }) ws bytes
   alloc_not p decided why q =
       let e : first_reason whole ≡ Some why = subst (Decided whole r ws n a) q decided in
       record { answer = rw e; numbered = rw e; heap = rw e; table = rw e; arena = rw e }
 
-  -- Placed in row i at s.
-  module _ (p : Place) (decided : Decided whole r ws n a p) (i s : ℕ) (q : p ≡ place.At i s) where
-    d : Decided whole r ws n a (place.At i s)
+  -- Placed.
+  module _ (p : Result Place Refusal) (decided : Decided whole r ws n a p) (place : Place) (q : p ≡ Ok place) where
+    abbrev i : ℕ
+    i = place.row
+
+    abbrev s : ℕ
+    s = place.start
+
+    d : Decided whole r ws n a (Ok place)
     d = subst (Decided whole r ws n a) q decided
 
     checked : valid r ws ≡ true
@@ -171,7 +179,7 @@ module _ (r : Heap) (ws bytes : List ℕ) (o n a : ℕ) where
           subst (λ (x : Segment). rows_of (config_of r) (insert x (blocks_in r.rows ws)) ≤ r.capacity)
           (ap (block (config_of r) o n) start_is ∙ sym (is (config_of r) refl)) granted.rows
 
-      at_row : Found (config_of r) r.rows (needed (config_of r) n) a ws (found.At i s)
+      at_row : Found (config_of r) r.rows (needed (config_of r) n) a ws (Some place)
       at_row = record { lowest = d.1.lowest; room = d.1.room }
 
       -- It ends in the arena.
@@ -185,7 +193,7 @@ module _ (r : Heap) (ws bytes : List ℕ) (o n a : ℕ) where
         d.1.room.in_use,
         omega (arith, inside, begins, bounded.granules),
         omega (arith, bounded.row i d.1.room.in_use, bounded.granules),
-        omega (arith, found_count (config_of r) r.rows (needed (config_of r) n) a ws i s b (valid_map r ws checked) at_row live begins length_is, rows_few, bounded.words),
+        omega (arith, found_count (config_of r) r.rows (needed (config_of r) n) a ws place b (valid_map r ws checked) at_row live begins length_is, rows_few, bounded.words),
       )
 
       -- The sums that are taken fit a word.
@@ -210,7 +218,7 @@ module _ (r : Heap) (ws bytes : List ℕ) (o n a : ℕ) where
 
       module _ (m : ℕ) (after : List ℕ) (w : Rewritten r.rows ws (replaced i 1 (cut (segment_at ws i) b) (segments_in r.rows ws)) m after) where
         map_is : replaced i 1 (cut (segment_at ws i) b) (segments_in r.rows ws) ≡ map_of (config_of r) (insert b (blocks_in r.rows ws))
-        map_is = found_cut (config_of r) r.rows (needed (config_of r) n) a ws i s b (valid_map r ws checked) at_row live begins length_is
+        map_is = found_cut (config_of r) r.rows (needed (config_of r) n) a ws place b (valid_map r ws checked) at_row live begins length_is
 
         pub rows_fit : m ≤ 4294967295
         rows_fit = omega (arith, w.rows, ap length map_is, rows_few, bounded.capacity)

@@ -26,7 +26,7 @@ use Rattle.model.proofs.Staying.{moves_longer, moves_clear}
 use Rattle.model.proofs.Refitted.{Accepted, accepted}
 use Rattle.model.proofs.Resizing.{exchanged}
 use Rattle.model.proofs.ZeroSize.{zero_order, zero_answer}
-use Rattle.segments.specs.Rows.{segment_at, blocks_in, Rewritten}
+use Rattle.segments.specs.Rows.{blocks_in, Rewritten}
 use Rattle.segments.specs.Search.{others}
 use Rattle.segments.specs.Changes.{Replaceable}
 use Rattle.segments.proofs.Replaced.{inside}
@@ -38,16 +38,15 @@ use Rattle.heap.specs.Steps.{ResizeDecided, updated_of}
 use Rattle.heap.proofs.Conditions.{valid_conditions}
 use Rattle.heap.proofs.ValidStored.{valid_kept}
 use Rattle.heap.proofs.Changing.{Bounds, bounds, stored_changed}
-use Rattle.heap.proofs.Freeing.{row_words, row_at, guard_lies}
+use Rattle.heap.proofs.Frees.{row_found, row_at, guard_lies}
 use Rattle.heap.proofs.Refitting.{replaceable, same_blocks}
 use Rattle.model.specs.declared.Segment.{Segment}
 use Rattle.model.specs.declared.Refusal.{Refusal}
 use Rattle.model.specs.declared.Resized.TheVariants as answer
-use Rattle.heap.specs.declared.Heap.{Heap}
+use Rattle.heap.specs.declared.record.Heap.{Heap}
 use Rattle.model.specs.declared.Resized.{Resized}
-use Rattle.heap.specs.declared.Outcome.{Outcome}
-use Rattle.heap.specs.declared.Place.{Place}
-use Rattle.heap.specs.declared.Place.TheVariants as place
+use Rattle.heap.specs.declared.record.Outcome.{Outcome}
+use Rattle.heap.specs.declared.resizing.Refitted.{Refitted}
 
 -- a free's answer has the same number and value as a resize's
 same_numbers : (f : Result ℕ Refusal) → resized_numbered (as_resize f) ≡ value_numbered f
@@ -56,14 +55,14 @@ same_numbers (Err why) = refl
 
 -- To size 0 it is a free.
 pub realloc_zero : (r : Heap) (ws arena : List ℕ) (o x n : ℕ) → n ≡ 0 → (f : Outcome ℕ) (after left : List ℕ) → FreeDone r ws arena o x f after left
-    → (out : Outcome Resized) → (out.answer ≡ as_resize f.answer) × (out.heap ≡ f.heap) → ReallocDone r ws arena o x n out after left
-realloc_zero r ws arena o x n z f after left d out e =
+    → (out : Outcome Resized) → out.answer ≡ as_resize f.answer → out.heap ≡ f.heap → ReallocDone r ws arena o x n out after left
+realloc_zero r ws arena o x n z f after left d out e same =
     let order = zero_order (valid r ws) (config_of r) (state_in r ws) arena o x in
     subst (λ (n : ℕ). ReallocDone r ws arena o x n out after left) (sym z)
     (record {
-      answer = e.0 ∙ ap as_resize d.answer ∙ sym (zero_answer (valid r ws) (config_of r) (state_in r ws) arena o x);
-      numbered = ap resized_numbered e.0 ∙ same_numbers f.answer ∙ rw order d.numbered;
-      heap = e.1 ∙ rw order d.heap;
+      answer = e ∙ ap as_resize d.answer ∙ sym (zero_answer (valid r ws) (config_of r) (state_in r ws) arena o x);
+      numbered = ap resized_numbered e ∙ same_numbers f.answer ∙ rw order d.numbered;
+      heap = same ∙ rw order d.heap;
       table = rw order d.table;
       arena = rw order d.arena;
     })
@@ -75,15 +74,24 @@ module _ (r : Heap) (ws arena : List ℕ) (o x n : ℕ) (some_size : 1 ≤ n) wh
   abbrev blocks : List Segment
   blocks = blocks_in r.rows ws
 
-  module _ (p : Place) (decided : ResizeDecided whole r ws o x n p) where
+  module _ (p : Result Refitted Refusal) (decided : ResizeDecided whole r ws o x n p) where
     -- Refused, it leaves all as it was.
-    pub realloc_not : (why : Refusal) → p ≡ place.Refused why → ReallocDone r ws arena o x n (record { answer = Err why; heap = r }) ws arena
+    pub realloc_not : (why : Refusal) → p ≡ Err why → ReallocDone r ws arena o x n (record { answer = Err why; heap = r }) ws arena
     realloc_not why q =
         let e : first_reason whole ≡ Some why = subst (ResizeDecided whole r ws o x n) q decided in
         record { answer = rw e; numbered = rw e; heap = rw e; table = rw e; arena = rw e }
 
-    module _ (i s : ℕ) (q : p ≡ place.At i s) where
-      d : ResizeDecided whole r ws o x n (place.At i s)
+    module _ (to : Refitted) (q : p ≡ Ok to) where
+      abbrev i : ℕ
+      i = to.old.row
+
+      abbrev s : ℕ
+      s = to.start
+
+      abbrev old : Segment
+      old = to.old.block
+
+      d : ResizeDecided whole r ws o x n (Ok to)
       d = subst (ResizeDecided whole r ws o x n) q decided
 
       has : Accepted (valid r ws) (config_of r) (state_in r ws) arena o x n
@@ -98,25 +106,22 @@ module _ (r : Heap) (ws arena : List ℕ) (o x n : ℕ) (some_size : 1 ≤ n) wh
       kept : Kept (config_of r) (state_in r ws)
       kept = valid_kept r ws checked
 
-      pub old_words : 4 * i + 4 ≤ length ws
-      old_words = row_words r ws checked i d.1.old.in_use
-
       pub new_asked : r.guards ≤ 1
       new_asked = bounded.guards
 
-      -- The block in row i is read as old, and the resized one is new.
-      module _ (old new : Segment) (old_is : old ≡ segment_at ws i) (is : new ≡ block (config_of r) o n s) where
+      -- The resized block is new.
+      module _ (new : Segment) (is : new ≡ block (config_of r) o n s) where
         was : block_at x blocks ≡ Some old
-        was = d.1.old.block ∙ ap Some (sym old_is)
+        was = d.1.old.block
 
         long : new.length ≡ needed (config_of r) n
         long = ap (λ (b : Segment). b.length) is
 
         may : Replaceable (config_of r) r.rows i new ws
-        may = replaceable r ws checked o has.freed.owner n some_size x i d.1.old s d.1.new new is
+        may = replaceable r ws checked o has.freed.owner n some_size x to.old d.1.old s d.1.new new is
 
         left_are : insert new (others r.rows i ws) ≡ insert (block (config_of r) o n s) (without x blocks)
-        left_are = same_blocks r ws checked o has.freed.owner n some_size x i d.1.old s d.1.new new is
+        left_are = same_blocks r ws checked o has.freed.owner n some_size x to.old d.1.old s d.1.new new is
 
         rows_few : rows_of (config_of r) (insert (block (config_of r) o n s) (without x blocks)) ≤ r.capacity
         rows_few =
@@ -133,7 +138,7 @@ module _ (r : Heap) (ws arena : List ℕ) (o x n : ℕ) (some_size : 1 ≤ n) wh
         arena_is = eqb-true _ _ has.freed.whole
 
         first : offset old ≡ x
-        first = ap offset old_is ∙ row_at d.1.old
+        first = ap offset d.1.old.there ∙ row_at (row_found d.1.old)
 
         old_inside : x + bytes old ≤ length arena
         old_inside = block_inside (config_of r) (state_in r ws) kept arena x old has.freed.whole was
@@ -161,7 +166,7 @@ module _ (r : Heap) (ws arena : List ℕ) (o x n : ℕ) (some_size : 1 ≤ n) wh
             (λ t. let e : Some (block (config_of r) o n (x / 16)) ≡ Some (block (config_of r) o n s) = rw t at d.1.new in
             let y : block (config_of r) o n (x / 16) ≡ block (config_of r) o n s = cc in
             let z : x / 16 ≡ s = ap (λ (b : Segment). b.start) y in
-            rw (eq-eqb x (16 * s) (omega (arith, row_at d.1.old))))
+            rw (eq-eqb x (16 * s) (omega (arith, row_at (row_found d.1.old)))))
             (λ t. let l = moves_longer (config_of r) blocks kept.ordered x old was n t in
             let f = moves_clear (config_of r) blocks kept.ordered x old was n o (block (config_of r) o n s) t d.1.new in
             let g = both_true _ _ (le-leb (bytes old) (bytes new) (omega (arith, long))) (subst (λ (k : ℕ). disjoint x (bytes old) (16 * s) (16 * k) ≡ true) (sym long) f) in
@@ -176,7 +181,7 @@ module _ (r : Heap) (ws arena : List ℕ) (o x n : ℕ) (some_size : 1 ≤ n) wh
             × (either (eqb (offset old) (offset new)) (both (leb (bytes old) (bytes new)) (disjoint (offset old) (bytes old) (offset new) (bytes new))) ≡ true)
         carry_asked = (
           new_asked,
-          λ g. guard_lies d.1.old checked arena has.freed.whole old old_is,
+          λ g. guard_lies (row_found d.1.old) checked arena has.freed.whole old d.1.old.there,
           λ g. new_guard_lem,
           omega (arith, old_inside, first),
           omega (arith, new_inside, ap (λ (b : Segment). b.start) is),

@@ -3,7 +3,7 @@
 use mathlib.Core.Path.{◌≡◌, refl, sym, ap, ◌∙◌, subst}
 use mathlib.Core.Bool.{true, false}
 use mathlib.Core.List.{List}
-use Rattle.std.specs.Prelude.{Option, None, Some}
+use Rattle.std.specs.Prelude.{Option, None, Some, Result, Ok, Err}
 use Prim.Native.Nat.{ℕ, ◌+◌, ◌-◌, ◌/◌, ◌%◌, ◌≤◌, ◌<◌}
 use native.Mathlib.Omega.{arith}
 use lib.Dec.{ltb}
@@ -24,28 +24,24 @@ use Rattle.model.proofs.Refitted.{refitted_at, free_refuses, size_decides}
 use Rattle.model.proofs.Resizing.{owner_without}
 use Rattle.segments.specs.Rows.{segment_at, segments_in, blocks_in}
 use Rattle.segments.specs.Tiling.{is_map}
-use Rattle.segments.specs.Search.{start_of, others, refit_start}
+use Rattle.segments.specs.Search.{others, refit_start}
 use Rattle.segments.specs.Changes.{Replaceable}
 use Rattle.segments.proofs.MapTiles.{live_formed, owner_not_0}
 use Rattle.segments.proofs.TilesMap.{map_charged}
 use Rattle.heap.specs.Stored.{config_of, state_in}
 use Rattle.heap.specs.Valid.{valid}
-use Rattle.heap.specs.Steps.{Examined, BlockRow, LookedUp, ResizeDecided}
+use Rattle.heap.specs.Steps.{Examination, IsBlock, LookedUp, ResizeDecided}
 use Rattle.heap.proofs.ValidStored.{valid_map, valid_kept}
 use Rattle.heap.proofs.Changing.{Bounds, bounds}
 use Rattle.heap.proofs.Asking.{owner_least, owner_most, granules_counted}
-use Rattle.heap.proofs.Freeing.{row_live, row_at}
+use Rattle.heap.proofs.Frees.{BlockRow, row_found, row_live, row_at, free_invalid}
 use Rattle.model.specs.declared.Segment.{Segment}
 use Rattle.model.specs.declared.Refusal.{Refusal}
 use Rattle.model.specs.declared.Refusal.TheVariants as refusal
-use Rattle.segments.specs.declared.Census.{Census}
-use Rattle.segments.specs.declared.Fit.{Fit}
-use Rattle.segments.specs.declared.Fit.TheVariants as found
-use Rattle.heap.specs.declared.Heap.{Heap}
-use Rattle.heap.specs.declared.Lookup.{Lookup}
-use Rattle.heap.specs.declared.Lookup.TheVariants as lookup
-use Rattle.heap.specs.declared.Place.{Place}
-use Rattle.heap.specs.declared.Place.TheVariants as place
+use Rattle.segments.specs.declared.census.Census.{Census}
+use Rattle.heap.specs.declared.record.Heap.{Heap}
+use Rattle.heap.specs.declared.freeing.Found.{Found}
+use Rattle.heap.specs.declared.resizing.Refitted.{Refitted}
 
 -- a resize by owner o, in a valid heap, of the block at x in row i, to n bytes, not 0
 module _ (r : Heap) (ws : List ℕ) (v : valid r ws ≡ true) (o : ℕ) (known : is_owner o ≡ true) (n : ℕ) (some_size : 1 ≤ n) where
@@ -55,7 +51,13 @@ module _ (r : Heap) (ws : List ℕ) (v : valid r ws ≡ true) (o : ℕ) (known :
   bounded : Bounds r ws v
   bounded = bounds r ws v
 
-  module _ (x i : ℕ) (b : BlockRow r ws x i) where
+  module _ (x : ℕ) (was : Found) (here : IsBlock r ws x was) where
+    abbrev i : ℕ
+    i = was.row
+
+    b : BlockRow r ws x was.row
+    b = row_found here
+
     -- the blocks beside the one in row i
     others_are : others r.rows i ws ≡ without x blocks
     others_are = ap (λ (k : ℕ). without k blocks) (row_at b)
@@ -99,46 +101,46 @@ module _ (r : Heap) (ws : List ℕ) (v : valid r ws ≡ true) (o : ℕ) (known :
         pub replace_full : r.capacity < count → first_reason (replace_order (config_of r) (state_in r ws) o x n) ≡ Some refusal.TableFull
         replace_full h = rw (e, lt-ltb r.capacity (rows_of (config_of r) (insert (block (config_of r) o n s) (without x blocks))) (omega (arith, rows_are)))
 
-        pub replace_there : count ≤ r.capacity → ResizeDecided (replace_order (config_of r) (state_in r ws) o x n) r ws o x n (place.At i s)
+        pub replace_there : count ≤ r.capacity → ResizeDecided (replace_order (config_of r) (state_in r ws) o x n) r ws o x n (Ok (record { old = was; start = s }))
         replace_there h =
-            (rw (e, le-ltb r.capacity (rows_of (config_of r) (insert (block (config_of r) o n s) (without x blocks))) (omega (arith, rows_are))), record { old = b; new = e })
+            (rw (e, le-ltb r.capacity (rows_of (config_of r) (insert (block (config_of r) o n s) (without x blocks))) (omega (arith, rows_are))), record { old = here; new = e })
 
     -- What the search says.
-    module _ (g : ℕ) (size : g ≡ needed (config_of r) n) (f : Fit)
-        (w : (c : Config) → c.base % 16 ≡ 0 → c.granules ≤ 65536 → is_map c (segments_in r.rows ws) ≡ true → is_live (segment_at ws i) ≡ true → start_of f ≡ refit_start c r.rows i g ws) where
-      found_is : refit (config_of r) blocks o x n ≡ given (start_of f) None (λ s. Some (block (config_of r) o n s))
+    module _ (g : ℕ) (size : g ≡ needed (config_of r) n) (f : Option ℕ)
+        (w : (c : Config) → c.base % 16 ≡ 0 → c.granules ≤ 65536 → is_map c (segments_in r.rows ws) ≡ true → is_live (segment_at ws i) ≡ true → f ≡ refit_start c r.rows i g ws) where
+      found_is : refit (config_of r) blocks o x n ≡ given f None (λ s. Some (block (config_of r) o n s))
       found_is =
           refit_is
           ∙ ap (λ (t : Option ℕ). given t None (λ s. Some (block (config_of r) o n s)))
           (sym (w (config_of r) bounded.base bounded.granules (valid_map r ws v) (row_live b) ∙ ap (λ (k : ℕ). refit_start (config_of r) r.rows i k ws) size))
 
       -- 7: there is no place,
-      pub replace_nowhere : f ≡ found.Nothing → first_reason (replace_order (config_of r) (state_in r ws) o x n) ≡ Some refusal.NoPlace
-      replace_nowhere q = rw (found_is ∙ ap (λ (f : Fit). given (start_of f) None (λ s. Some (block (config_of r) o n s))) q)
+      pub replace_nowhere : f ≡ None → first_reason (replace_order (config_of r) (state_in r ws) o x n) ≡ Some refusal.NoPlace
+      replace_nowhere q = rw (found_is ∙ ap (λ (f : Option ℕ). given f None (λ s. Some (block (config_of r) o n s))) q)
 
       -- or there is this one.
-      pub refit_at : (j s : ℕ) → f ≡ found.At j s → refit (config_of r) blocks o x n ≡ Some (block (config_of r) o n s)
-      refit_at j s q = found_is ∙ ap (λ (f : Fit). given (start_of f) None (λ s. Some (block (config_of r) o n s))) q
+      pub refit_at : (s : ℕ) → f ≡ Some s → refit (config_of r) blocks o x n ≡ Some (block (config_of r) o n s)
+      refit_at s q = found_is ∙ ap (λ (f : Option ℕ). given f None (λ s. Some (block (config_of r) o n s))) q
 
     -- 6, by the figures that were counted.
-    module _ (k : Census) (e : Examined r ws k) (owned : (segment_at ws i).owner ≡ o) where
+    module _ (k : Census) (e : Examination r ws k) (owned : was.block.owner ≡ o) where
       kept : Kept (config_of r) (state_in r ws)
       kept = valid_kept r ws v
 
-      begun : Begins (config_of r) 0 x blocks (segment_at ws i)
-      begun = begins (config_of r) 0 x blocks (segment_at ws i) kept.ordered b.block
+      begun : Begins (config_of r) 0 x blocks was.block
+      begun = begins (config_of r) 0 x blocks was.block kept.ordered here.block
 
-      pub held_without : total (charge (config_of r)) (owned_by o (without x blocks)) + (segment_at ws i).length ≡ get_or k.held (o - 1) 0
+      pub held_without : total (charge (config_of r)) (owned_by o (without x blocks)) + was.block.length ≡ get_or k.held (o - 1) 0
       held_without =
           omega (
             arith,
             begun.live.sized,
-            owner_without (config_of r) (state_in r ws) kept (charge (config_of r)) o x (segment_at ws i) b.block owned,
+            owner_without (config_of r) (state_in r ws) kept (charge (config_of r)) o x was.block here.block owned,
             map_charged (config_of r) (segments_in r.rows ws) (valid_map r ws v) o,
-            granules_counted r ws k e (e.ok ∙ v) o known,
+            granules_counted r ws k e o known,
           )
 
-      module _ (held : ℕ) (h : held + (segment_at ws i).length ≡ get_or k.held (o - 1) 0) (g : ℕ) (size : g ≡ needed (config_of r) n) where
+      module _ (held : ℕ) (h : held + was.block.length ≡ get_or k.held (o - 1) 0) (g : ℕ) (size : g ≡ needed (config_of r) n) where
         six_is : ltb (get_or r.granule_quotas (o - 1) 0) (held + g) ≡ ltb (quota r.granule_quotas o) (total (charge (config_of r)) (owned_by o (without x blocks)) + needed (config_of r) n)
         six_is =
             let z : held ≡ total (charge (config_of r)) (owned_by o (without x blocks)) = omega (arith, held_without) in
@@ -148,9 +150,9 @@ module _ (r : Heap) (ws : List ℕ) (v : valid r ws ≡ true) (o : ℕ) (known :
         resize_exceeds q = rw (sym six_is ∙ q)
 
         pub resize_within : ltb (get_or r.granule_quotas (o - 1) 0) (held + g) ≡ false
-            → (p : Place) → ResizeDecided (replace_order (config_of r) (state_in r ws) o x n) r ws o x n p → ResizeDecided (new_length_order (config_of r) (state_in r ws) o x n) r ws o x n p
-        resize_within q (place.Refused why) d = rw (sym six_is ∙ q) d
-        resize_within q (place.At row start) d = (rw (sym six_is ∙ q) d.0, d.1)
+            → (p : Result Refitted Refusal) → ResizeDecided (replace_order (config_of r) (state_in r ws) o x n) r ws o x n p → ResizeDecided (new_length_order (config_of r) (state_in r ws) o x n) r ws o x n p
+        resize_within q (Err why) d = rw (sym six_is ∙ q) d
+        resize_within q (Ok to) d = (rw (sym six_is ∙ q) d.0, d.1)
 
 -- The whole order, of what was found.
 module _ (r : Heap) (ws arena : List ℕ) (o x n : ℕ) (some_size : 1 ≤ n) where
@@ -160,24 +162,30 @@ module _ (r : Heap) (ws arena : List ℕ) (o x n : ℕ) (some_size : 1 ≤ n) wh
   abbrev whole : Order Refusal
   whole = realloc_order (valid r ws) (config_of r) (state_in r ws) arena o x n
 
-  module _ (l : Lookup) (f : LookedUp before r ws x l) where
-    pub refit_not : (why : Refusal) → l ≡ lookup.Refused why → first_reason whole ≡ Some why
-    refit_not why q = free_refuses (valid r ws) (config_of r) (state_in r ws) arena o x n why (subst (LookedUp before r ws x) q f)
+  refused : (p : Result Refitted Refusal) (why : Refusal) → p ≡ Err why → first_reason before ≡ Some why → ResizeDecided whole r ws o x n p
+  refused p why q e = subst (ResizeDecided whole r ws o x n) (sym q) (free_refuses (valid r ws) (config_of r) (state_in r ws) arena o x n why e)
 
-    module _ (i : ℕ) (q : l ≡ lookup.Row i) where
-      looked : LookedUp before r ws x (lookup.Row i)
+  pub refit_invalid : valid r ws ≡ false → (p : Result Refitted Refusal) → p ≡ Err refusal.InvalidHeap → ResizeDecided whole r ws o x n p
+  refit_invalid v p q = refused p refusal.InvalidHeap q (free_invalid r ws o x arena v)
+
+  module _ (l : Result Found Refusal) (f : LookedUp before r ws x l) where
+    pub refit_not : (why : Refusal) → l ≡ Err why → (p : Result Refitted Refusal) → p ≡ Err why → ResizeDecided whole r ws o x n p
+    refit_not why q p e = refused p why e (subst (LookedUp before r ws x) q f)
+
+    module _ (was : Found) (q : l ≡ Ok was) where
+      looked : LookedUp before r ws x (Ok was)
       looked = subst (LookedUp before r ws x) q f
 
       good : Released (valid r ws) (config_of r) (state_in r ws) arena o x
       good = released (valid r ws) (config_of r) (state_in r ws) arena o x looked.0
 
-      -- What is asked of the row.
-      pub refit_asked : (valid r ws ≡ true) × (is_owner o ≡ true) × BlockRow r ws x i × ((segment_at ws i).owner ≡ o)
+      -- What is asked of the block.
+      pub refit_asked : (valid r ws ≡ true) × (is_owner o ≡ true) × IsBlock r ws x was × (was.block.owner ≡ o)
       refit_asked =
-          let e : Some good.block ≡ Some (segment_at ws i) = sym good.found ∙ looked.1.block in
-          let z : good.block ≡ segment_at ws i = cc in
+          let e : Some good.block ≡ Some was.block = sym good.found ∙ looked.1.block in
+          let z : good.block ≡ was.block = cc in
           (good.valid, good.owner, looked.1, ap (λ (b : Segment). b.owner) (sym z) ∙ good.owned)
 
-      pub refit_decided : (p : Place) → ResizeDecided (new_length_order (config_of r) (state_in r ws) o x n) r ws o x n p → ResizeDecided whole r ws o x n p
-      refit_decided (place.Refused why) d = size_decides (valid r ws) (config_of r) (state_in r ws) arena o x n some_size looked.0 ∙ d
-      refit_decided (place.At row start) d = (size_decides (valid r ws) (config_of r) (state_in r ws) arena o x n some_size looked.0 ∙ d.0, d.1)
+      pub refit_decided : (p : Result Refitted Refusal) → ResizeDecided (new_length_order (config_of r) (state_in r ws) o x n) r ws o x n p → ResizeDecided whole r ws o x n p
+      refit_decided (Err why) d = size_decides (valid r ws) (config_of r) (state_in r ws) arena o x n some_size looked.0 ∙ d
+      refit_decided (Ok to) d = (size_decides (valid r ws) (config_of r) (state_in r ws) arena o x n some_size looked.0 ∙ d.0, d.1)

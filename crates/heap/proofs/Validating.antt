@@ -15,14 +15,14 @@ use Rattle.model.proofs.Choosing.{split, tests, same_test, parts, clash, both_le
 use Rattle.model.proofs.Ranges.{within_least, within_most, bounds_within, each_owner, all_owners, quota_at, few_guards}
 use Rattle.segments.specs.Rows.{segments_in, blocks_in}
 use Rattle.segments.specs.Tiling.{is_map}
-use Rattle.segments.specs.Counting.{Counted}
-use Rattle.segments.specs.declared.Census.{Census}
+use Rattle.segments.specs.Counting.{Figures}
+use Rattle.segments.specs.declared.census.Census.{Census}
 use Rattle.segments.proofs.TilesMap.{map_charged, MapParts, map_parts, parts_map}
 use Rattle.heap.specs.Stored.{config_of}
 use Rattle.heap.specs.Valid.{keeps_quotas, valid}
-use Rattle.heap.specs.Steps.{framed, keeps_all, agrees_with, Examined}
+use Rattle.heap.specs.Steps.{framed, keeps_all, agrees_with, Examination}
 use Rattle.heap.proofs.Conditions.{Conditions, valid_conditions, conditions_valid, not_valid}
-use Rattle.heap.specs.declared.Heap.{Heap}
+use Rattle.heap.specs.declared.record.Heap.{Heap}
 
 pub keeps_all_lem : (figures quotas : List ℕ) → ((i : ℕ) → i < 8 → get_or figures i 0 ≤ get_or quotas i 0) → keeps_all figures quotas ≡ true
 keeps_all_lem figures quotas h = all_owners (λ (o : ℕ). leb (get_or figures (o - 1) 0) (quota quotas o)) (λ o a b. le-leb (get_or figures (o - 1) 0) (quota quotas o) (rw (quota_at quotas o a) (h (o - 1) (omega arith))))
@@ -78,81 +78,75 @@ module _ (r : Heap) (ws : List ℕ) where
       let range : in_range (config_of r) ≡ true = search parts in
       (omega (tests, within_most 1 r.capacity r.rows rows), few_guards (config_of r) range)
 
--- With the figures counted in the rows in use.
-module _ (r : Heap) (ws : List ℕ) (k : Census) (counted : Counted (config_of r) r.rows ws k) where
-  -- Rows that are no map are not those of a valid heap.
-  pub no_map : k.ok ≡ false → valid r ws ≡ false
-  no_map q =
-      sym (not_valid r ws (λ a. clash _ (parts_map (config_of r) (segments_in r.rows ws) (record { tiled = a.tiled; formed = a.formed; apart = a.apart })) (sym counted.ok ∙ q)))
+-- Rows that are no map are not those of a valid heap.
+pub no_map : (r : Heap) (ws : List ℕ) → is_map (config_of r) (segments_in r.rows ws) ≡ false → valid r ws ≡ false
+no_map r ws q =
+    sym (not_valid r ws (λ a. clash _ (parts_map (config_of r) (segments_in r.rows ws) (record { tiled = a.tiled; formed = a.formed; apart = a.apart })) q))
 
-  module _ (good : k.ok ≡ true) where
-    map : is_map (config_of r) (segments_in r.rows ws) ≡ true
-    map = sym counted.ok ∙ good
+-- With the figures counted in the rows in use, which are a map.
+module _ (r : Heap) (ws : List ℕ) (k : Census) (map : is_map (config_of r) (segments_in r.rows ws) ≡ true) (figures : Figures (config_of r) r.rows ws k) where
+  these : MapParts (config_of r) (segments_in r.rows ws)
+  these = map_parts (config_of r) (segments_in r.rows ws) map
 
-    these : MapParts (config_of r) (segments_in r.rows ws)
-    these = map_parts (config_of r) (segments_in r.rows ws) map
+  charged : (o : ℕ) → total (charge (config_of r)) (owned_by o (blocks_in r.rows ws)) ≡ granules_of (owned_by o (blocks_in r.rows ws))
+  charged = map_charged (config_of r) (segments_in r.rows ws) map
 
-    charged : (o : ℕ) → total (charge (config_of r)) (owned_by o (blocks_in r.rows ws)) ≡ granules_of (owned_by o (blocks_in r.rows ws))
-    charged = map_charged (config_of r) (segments_in r.rows ws) map
+  quotas_kept : keeps_all k.blocks r.block_quotas ≡ true → keeps_all k.held r.granule_quotas ≡ true
+      → every (keeps_quotas (config_of r) (blocks_in r.rows ws)) owners ≡ true
+  quotas_kept p q =
+      all_owners (keeps_quotas (config_of r) (blocks_in r.rows ws))
+      (λ o a b. both_true _ _
+      (le-leb (length (owned_by o (blocks_in r.rows ws))) (quota r.block_quotas o) (omega (arith, keeps_each k.blocks r.block_quotas p o a b, figures.blocks o a b)))
+      (le-leb (total (charge (config_of r)) (owned_by o (blocks_in r.rows ws))) (quota r.granule_quotas o) (omega (arith, keeps_each k.held r.granule_quotas q o a b, figures.held o a b, charged o))))
 
-    quotas_kept : keeps_all k.blocks r.block_quotas ≡ true → keeps_all k.held r.granule_quotas ≡ true
-        → every (keeps_quotas (config_of r) (blocks_in r.rows ws)) owners ≡ true
-    quotas_kept p q =
-        all_owners (keeps_quotas (config_of r) (blocks_in r.rows ws))
-        (λ o a b. both_true _ _
-        (le-leb (length (owned_by o (blocks_in r.rows ws))) (quota r.block_quotas o) (omega (arith, keeps_each k.blocks r.block_quotas p o a b, counted.blocks good o a b)))
-        (le-leb (total (charge (config_of r)) (owned_by o (blocks_in r.rows ws))) (quota r.granule_quotas o) (omega (arith, keeps_each k.held r.granule_quotas q o a b, counted.held good o a b, charged o))))
+  each : Conditions r ws → (o : ℕ) → 1 ≤ o → o ≤ 8
+      → (length (owned_by o (blocks_in r.rows ws)) ≤ quota r.block_quotas o) × (total (charge (config_of r)) (owned_by o (blocks_in r.rows ws)) ≤ quota r.granule_quotas o)
+  each c o a b =
+      let e : keeps_quotas (config_of r) (blocks_in r.rows ws) o ≡ true = each_owner (keeps_quotas (config_of r) (blocks_in r.rows ws)) c.held o a b in (
+        leb-true _ _ (both_left (leb (length (owned_by o (blocks_in r.rows ws))) (quota r.block_quotas o)) (leb (total (charge (config_of r)) (owned_by o (blocks_in r.rows ws))) (quota r.granule_quotas o)) e),
+        leb-true _ _ (both_right (leb (length (owned_by o (blocks_in r.rows ws))) (quota r.block_quotas o)) (leb (total (charge (config_of r)) (owned_by o (blocks_in r.rows ws))) (quota r.granule_quotas o)) e),
+      )
 
-    each : Conditions r ws → (o : ℕ) → 1 ≤ o → o ≤ 8
-        → (length (owned_by o (blocks_in r.rows ws)) ≤ quota r.block_quotas o) × (total (charge (config_of r)) (owned_by o (blocks_in r.rows ws)) ≤ quota r.granule_quotas o)
-    each c o a b =
-        let e : keeps_quotas (config_of r) (blocks_in r.rows ws) o ≡ true = each_owner (keeps_quotas (config_of r) (blocks_in r.rows ws)) c.held o a b in (
-          leb-true _ _ (both_left (leb (length (owned_by o (blocks_in r.rows ws))) (quota r.block_quotas o)) (leb (total (charge (config_of r)) (owned_by o (blocks_in r.rows ws))) (quota r.granule_quotas o)) e),
-          leb-true _ _ (both_right (leb (length (owned_by o (blocks_in r.rows ws))) (quota r.block_quotas o)) (leb (total (charge (config_of r)) (owned_by o (blocks_in r.rows ws))) (quota r.granule_quotas o)) e),
-        )
+  blocks_kept : Conditions r ws → keeps_all k.blocks r.block_quotas ≡ true
+  blocks_kept c =
+      all_owners (λ (o : ℕ). leb (get_or k.blocks (o - 1) 0) (quota r.block_quotas o))
+      (λ o a b. le-leb (get_or k.blocks (o - 1) 0) (quota r.block_quotas o) (omega (arith, figures.blocks o a b, (each c o a b).0)))
 
-    blocks_kept : Conditions r ws → keeps_all k.blocks r.block_quotas ≡ true
-    blocks_kept c =
-        all_owners (λ (o : ℕ). leb (get_or k.blocks (o - 1) 0) (quota r.block_quotas o))
-        (λ o a b. le-leb (get_or k.blocks (o - 1) 0) (quota r.block_quotas o) (omega (arith, counted.blocks good o a b, (each c o a b).0)))
+  granules_kept : Conditions r ws → keeps_all k.held r.granule_quotas ≡ true
+  granules_kept c =
+      all_owners (λ (o : ℕ). leb (get_or k.held (o - 1) 0) (quota r.granule_quotas o))
+      (λ o a b. le-leb (get_or k.held (o - 1) 0) (quota r.granule_quotas o) (omega (arith, figures.held o a b, charged o, (each c o a b).1)))
 
-    granules_kept : Conditions r ws → keeps_all k.held r.granule_quotas ≡ true
-    granules_kept c =
-        all_owners (λ (o : ℕ). leb (get_or k.held (o - 1) 0) (quota r.granule_quotas o))
-        (λ o a b. le-leb (get_or k.held (o - 1) 0) (quota r.granule_quotas o) (omega (arith, counted.held good o a b, charged o, (each c o a b).1)))
+  -- If they are one, and what needs no look at a row holds, the conditions left decide.
+  pub agrees_valid : framed r ws ≡ true → agrees_with r ws k ≡ valid r ws
+  agrees_valid f =
+      same_test (agrees_with r ws k) (valid r ws)
+      (λ q.
+      let words : eqb (length ws) (4 * r.capacity) ≡ true = search parts in
+      let rows : within 1 r.capacity r.rows ≡ true = search parts in
+      let used : eqb r.used k.used ≡ true = search parts in
+      let peak : within r.used r.granules r.peak ≡ true = search parts in
+      conditions_valid r ws (record {
+        range = both_left (in_range (config_of r)) _ f;
+        words = eqb-true _ _ words;
+        rows_least = within_least 1 r.capacity r.rows rows;
+        rows_most = within_most 1 r.capacity r.rows rows;
+        tiled = these.tiled;
+        formed = these.formed;
+        apart = these.apart;
+        unused = both_left (every (eqb 0) (drop (4 * r.rows) ws)) _ q;
+        used = eqb-true _ _ used ∙ figures.used;
+        peak_least = within_least r.used r.granules r.peak peak;
+        peak_most = within_most r.used r.granules r.peak peak;
+        held = quotas_kept (search parts) (search parts);
+      }))
+      (λ v. let a : Conditions r ws = valid_conditions r ws v in
+      both_true _ _ a.unused
+      (both_true _ _ (eq-eqb r.used k.used (omega (arith, a.used, figures.used)))
+      (both_true _ _ (bounds_within r.used r.granules r.peak a.peak_least a.peak_most)
+      (both_true _ _ (blocks_kept a) (granules_kept a)))))
 
-    -- If they are one, and what needs no look at a row holds, the conditions left decide.
-    pub agrees_valid : framed r ws ≡ true → agrees_with r ws k ≡ valid r ws
-    agrees_valid f =
-        same_test (agrees_with r ws k) (valid r ws)
-        (λ q.
-        let words : eqb (length ws) (4 * r.capacity) ≡ true = search parts in
-        let rows : within 1 r.capacity r.rows ≡ true = search parts in
-        let used : eqb r.used k.used ≡ true = search parts in
-        let peak : within r.used r.granules r.peak ≡ true = search parts in
-        conditions_valid r ws (record {
-          range = both_left (in_range (config_of r)) _ f;
-          words = eqb-true _ _ words;
-          rows_least = within_least 1 r.capacity r.rows rows;
-          rows_most = within_most 1 r.capacity r.rows rows;
-          tiled = these.tiled;
-          formed = these.formed;
-          apart = these.apart;
-          unused = both_left (every (eqb 0) (drop (4 * r.rows) ws)) _ q;
-          used = eqb-true _ _ used ∙ counted.used good;
-          peak_least = within_least r.used r.granules r.peak peak;
-          peak_most = within_most r.used r.granules r.peak peak;
-          held = quotas_kept (search parts) (search parts);
-        }))
-        (λ v. let a : Conditions r ws = valid_conditions r ws v in
-        both_true _ _ a.unused
-        (both_true _ _ (eq-eqb r.used k.used (omega (arith, a.used, counted.used good)))
-        (both_true _ _ (bounds_within r.used r.granules r.peak a.peak_least a.peak_most)
-        (both_true _ _ (blocks_kept a) (granules_kept a)))))
-
--- What a check tells of a record and a table that are not valid, and of a valid heap.
-pub examined_not : (r : Heap) (ws : List ℕ) (k : Census) → k.ok ≡ false → valid r ws ≡ false → Examined r ws k
-examined_not r ws k q v = record { ok = q ∙ sym v; counted = λ t. absurd (clash _ t q) }
-
-pub examined : (r : Heap) (ws : List ℕ) (k : Census) → Counted (config_of r) r.rows ws k → k.ok ≡ true → framed r ws ≡ true → agrees_with r ws k ≡ true → Examined r ws k
-examined r ws k counted good f q = record { ok = good ∙ sym (sym (agrees_valid r ws k counted good f) ∙ q); counted = λ t. counted }
+-- What a check tells of a valid heap.
+pub examined : (r : Heap) (ws : List ℕ) (k : Census) → is_map (config_of r) (segments_in r.rows ws) ≡ true → Figures (config_of r) r.rows ws k → framed r ws ≡ true
+    → agrees_with r ws k ≡ true → Examination r ws k
+examined r ws k map figures f q = record { valid = sym (agrees_valid r ws k map figures f) ∙ q; figures = figures }

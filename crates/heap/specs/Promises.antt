@@ -5,10 +5,10 @@ use Rattle.std.specs.Prelude.{ℕ, ◌≡◌, List, Result}
 use Rattle.model.specs.Numbers as numbers
 use Rattle.heap.specs.Stored.{handed}
 use Rattle.heap.specs.Calls as calls
-use Rattle.heap.specs.declared.Heap.{Heap}
-use Rattle.heap.specs.declared.Initialized.{Initialized}
+use Rattle.heap.specs.declared.record.Heap.{Heap}
+use Rattle.heap.specs.declared.record.Initialized.{Initialized}
 use Rattle.model.specs.declared.Resized.{Resized}
-use Rattle.heap.specs.declared.Outcome.{Outcome}
+use Rattle.heap.specs.declared.record.Outcome.{Outcome}
 use Rattle.model.specs.declared.Plan.{Plan}
 use Rattle.model.specs.declared.BlockSize.{BlockSize}
 use Rattle.model.specs.declared.Totals.{Totals}

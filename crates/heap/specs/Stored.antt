@@ -5,7 +5,7 @@ use Rattle.model.specs.Quantities.{Config}
 use Rattle.model.specs.Allocation.{State, granules_of}
 use Rattle.model.specs.SegmentMap.{map_of, rows_of}
 use Rattle.segments.specs.Rows.{table_of, blocks_in}
-use Rattle.heap.specs.declared.Heap.{Heap}
+use Rattle.heap.specs.declared.record.Heap.{Heap}
 
 -- A heap is handed in as a record and the words of a table.
 pub record Stored : Type 0 where

@@ -3,7 +3,7 @@
 use mathlib.Core.Path.{◌≡◌, refl}
 use mathlib.Core.Bool.{false}
 use mathlib.Core.List.{[], ◌∷◌, ◌++◌}
-use Rattle.std.specs.Prelude.{None, Some}
+use Rattle.std.specs.Prelude.{None, Some, Result, Ok, Err}
 use Prim.Native.Nat.{ℕ}
 use native.Mathlib.Omega.{arith}
 use Rattle.model.specs.Orders.{Order, first_reason, unless}
@@ -47,6 +47,20 @@ first_then (r ∷ rs) ts e = let n = no_reason (r ∷ rs) e in rw n.0 (first_the
 pub first_stays : {R : Type 0} (rs ts : Order R) (why : R) → first_reason rs ≡ Some why → first_reason (rs ++ ts) ≡ Some why
 first_stays [] ts why e = let w : ◌≡◌ {A = ℕ} 0 1 = cc in absurd (omega arith)
 first_stays (r ∷ rs) ts why e = split r.0 (λ q. rw q (rw q at e)) (λ q. rw q (first_stays rs ts why (rw q at e)))
+
+-- A part of an order is checked: it refuses with its first reason,
+pub refused_by : {R : Type 0} (order : Order R) (why : R) → ◌≡◌ {A = Result (Unit {0}) R} (Err why) (unless order (Ok tt) Err) → first_reason order ≡ Some why
+refused_by {R} order why e =
+    split_option (first_reason order)
+    (λ q. let z : ◌≡◌ {A = Result (Unit {0}) R} (Err why) (Ok tt) = rw q at e in let w : ◌≡◌ {A = ℕ} 0 1 = cc in absurd (omega arith))
+    (λ t q. let z : ◌≡◌ {A = Result (Unit {0}) R} (Err why) (Err t) = rw q at e in let w : why ≡ t = cc in rw (q, w))
+
+-- and where it passes it has none.
+pub passed_by : {R : Type 0} (order : Order R) → ◌≡◌ {A = Result (Unit {0}) R} (Ok tt) (unless order (Ok tt) Err) → first_reason order ≡ None
+passed_by {R} order e =
+    split_option (first_reason order)
+    (λ q. q)
+    (λ t q. let z : ◌≡◌ {A = Result (Unit {0}) R} (Ok tt) (Err t) = rw q at e in let w : ◌≡◌ {A = ℕ} 0 1 = cc in absurd (omega arith))
 
 -- a call whose answer is a refusal found a reason
 pub refused_some : {R A : Type 0} (order : Order R) (a : A) (refused : R → A) (r : R) → (a ≡ refused r → ⊥)

@@ -19,10 +19,10 @@ use Rattle.model.proofs.Refusing.{no_reason}
 use Rattle.heap.specs.Stored.{Stored}
 use Rattle.heap.specs.Calls.{is_valid, config, state}
 use Rattle.heap.specs.Promises.{InitDone, AllocDone, FreeDone}
-use Rattle.heap.specs.declared.Heap.{Heap}
-use Rattle.heap.specs.declared.Initialized.{Initialized}
-use Rattle.heap.specs.declared.Outcome.{Outcome}
-use Rattle.heap.proofs.Making.{init_reason, none_applies}
+use Rattle.heap.specs.declared.record.Heap.{Heap}
+use Rattle.heap.specs.declared.record.Initialized.{Initialized}
+use Rattle.heap.specs.declared.record.Outcome.{Outcome}
+use Rattle.heap.proofs.Makes.{init_reason, none_applies}
 use Rattle.model.specs.declared.Refusal.TheVariants as refusal
 use Rattle.model.specs.declared.InitRefusal.{InitRefusal}
 use Rattle.script.specs.Commands.{answer_numbered}

@@ -26,7 +26,7 @@ use Rattle.heap.specs.Stored.{Stored, handed, record_for, table_for, store}
 use Rattle.heap.specs.Calls.{is_valid, config, state, init, afterwards}
 use Rattle.heap.proofs.StoredValid.{stored_valid}
 use Rattle.heap.proofs.ValidStored.{valid_kept, valid_range}
-use Rattle.heap.proofs.Making.{init_leaves, init_range, fresh_kept, zero_invalid}
+use Rattle.heap.proofs.Makes.{init_leaves, init_range, fresh_kept, zero_invalid}
 use Rattle.heap.proofs.Laws.{alloc_invalid, free_invalid}
 use Rattle.script.specs.Text.{ascii, prefixed, pieces, ended, unended, is_digit, value_from, value_of, number_in, digits_within, decimal, spaced, line_of}
 use Rattle.script.specs.Commands.{read_line, answer_line}

@@ -33,7 +33,7 @@ use Rattle.model.specs.declared.InitRefusal.TheVariants as init_refusal
 use Rattle.script.specs.Commands.{answer_line}
 use Rattle.script.specs.declared.Answer.TheVariants as answer
 use Rattle.model.specs.declared.Totals.{Totals}
-use Rattle.heap.specs.declared.Heap.{Heap}
+use Rattle.heap.specs.declared.record.Heap.{Heap}
 use Rattle.script.proofs.Lists.{sets_append, at_most}
 use Rattle.script.specs.declared.Script.{Script}
 

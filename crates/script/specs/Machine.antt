@@ -16,7 +16,7 @@ use Rattle.model.specs.declared.Refusal.{Refusal}
 use Rattle.model.specs.declared.InitRefusal.{InitRefusal}
 use Rattle.model.specs.declared.InitRefusal.TheVariants as init_refusal
 use Rattle.model.specs.declared.Totals.{Totals}
-use Rattle.heap.specs.declared.Heap.{Heap}
+use Rattle.heap.specs.declared.record.Heap.{Heap}
 use Rattle.script.specs.declared.Script.{Script}
 use Rattle.script.specs.declared.Command.{Command}
 use Rattle.script.specs.declared.Command.TheVariants as command

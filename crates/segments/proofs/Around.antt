@@ -1,7 +1,8 @@
 -- The free run around a row that is given back, and the map with a block in place of the one in that row.
 -- Assumes nothing.
 use Rattle.std.proofs.Common.{◌≡◌, ℕ, ◌+◌, ◌-◌, ◌%◌, ◌<◌, ◌≤◌, Bool, true, false, not, eqb, ltb, leb, List, [], ◌∷◌, ◌++◌, length, take, sym, refl, ap, ◌∙◌, subst, append_assoc, append-nil, arith, length-append, take_at, eqb-true, le-leb}
-use Rattle.std.specs.Prelude.{Some}
+use Rattle.std.specs.Prelude.{Option, Some}
+use Rattle.std.specs.Option.{option_map}
 use lib.Seq.{append_snoc}
 use borrow.Author.Tests.{lt-leb}
 use Rattle.model.specs.Choose.{choose, both, every, only, first_of}
@@ -14,7 +15,7 @@ use Rattle.model.proofs.Offsets.{granule_in, in_granule}
 use Rattle.model.proofs.BaseLaws.{at_base, lowest_alike}
 use Rattle.segments.specs.Rows.{segment_at, segments_in, blocks_in}
 use Rattle.segments.specs.Tiling.{tiles, is_map}
-use Rattle.segments.specs.Search.{start_of, Found, others, refit_start}
+use Rattle.segments.specs.Search.{Found, others, refit_start}
 use Rattle.segments.specs.Changes.{cut, released}
 use Rattle.segments.specs.Steps.{run_from, run_to, run_around}
 use Rattle.segments.proofs.MapTiles.{live_map, is_map_lem}
@@ -23,13 +24,13 @@ use Rattle.segments.proofs.Rows.{length_segments}
 use Rattle.segments.proofs.Reading.{rest, rest_row, rest_none, row_parted, rows_before, tiles_le, ends_by, tiles_end}
 use Rattle.segments.proofs.Tiled.{row_next}
 use Rattle.segments.proofs.Apart.{first_free, last_free, last_end}
-use Rattle.segments.proofs.Replacing.{gap_some, gap_none, cut_length}
+use Rattle.segments.proofs.Cuts.{gap_some, gap_none, cut_length}
 use Rattle.segments.proofs.Parted.{Parted, part, starts_from, tiles_from, Window, Row, row_of}
 use Rattle.segments.proofs.Splitting.{clear_end, MapWith, map_with, map_with_count}
 use Rattle.segments.proofs.Releasing.{Merged, merged, release_rows}
 use Rattle.segments.proofs.Finding.{lacks, lacks_after, lacks_before, row_inside}
 use Rattle.model.specs.declared.Segment.{Segment}
-use Rattle.segments.specs.declared.Fit.{Fit}
+use Rattle.segments.specs.declared.searching.Place.{Place}
 
 -- The free run around a row of a map: it begins no later than the row, ends no earlier, and ends in the arena.
 pub around_bounds : (c : Config) (n i : ℕ) (ws : List ℕ) → i < n → is_map c (segments_in n ws) ≡ true
@@ -152,7 +153,7 @@ module _ (c : Config) (n i : ℕ) (ws : List ℕ) (h : i < n) (m : is_map c (seg
     left_one : length left ≤ 1
     right_one : length right ≤ 1
     after_live : first_free after ≡ false
-    Some : 1 ≤ row.length
+    some : 1 ≤ row.length
 
   around : Around
   around =
@@ -195,7 +196,7 @@ module _ (c : Config) (n i : ℕ) (ws : List ℕ) (h : i < n) (m : is_map c (seg
         left_one = g.left_one;
         right_one = g.right_one;
         after_live = g.after_live;
-        Some = f.Some;
+        some = f.some;
       }
 
   -- The other blocks are in order, and their map is one.
@@ -237,7 +238,7 @@ module _ (c : Config) (n i : ℕ) (ws : List ℕ) (h : i < n) (m : is_map c (seg
       (λ p. let inside : leb (row.start + g) c.granules ≡ true = search parts in
       let all : every clear (only is_live a.before ++ only is_live a.after) ≡ true = search parts in
       le-leb (row.start + g) to
-      (clear_end row.start g to c.granules a.after a.back a.after_live (every_back clear (only is_live a.before) (only is_live a.after) all) (omega (arith, a.Some)) (omega tests)))
+      (clear_end row.start g to c.granules a.after a.back a.after_live (every_back clear (only is_live a.before) (only is_live a.after) all) (omega (arith, a.some)) (omega tests)))
       (λ p. both_true (leb (row.start + g) c.granules) (every clear (only is_live a.before ++ only is_live a.after)) (le-leb (row.start + g) c.granules (omega tests))
       (every_append clear (only is_live a.before) (only is_live a.after)
       (every_only clear is_live a.before (every_weaker (ends_by from) clear (λ y k. after_clear row.start g y (omega tests)) a.before (tiles_end 0 from a.before a.front)))
@@ -248,7 +249,7 @@ module _ (c : Config) (n i : ℕ) (ws : List ℕ) (h : i < n) (m : is_map c (seg
   refit_stays g k = rw (stays_around g ∙ le-leb (row.start + g) to k)
 
   -- What first fit finds on 16 bytes, for a base with the same remainder by 16, is where the block goes.
-  pub refit_goes : (g : ℕ) → to < row.start + g → (f : Fit) (b : ℕ) → c.base % 16 ≡ b % 16 → Found (at_base b c) n g 16 ws f → start_of f ≡ refit_start c n i g ws
+  pub refit_goes : (g : ℕ) → to < row.start + g → (f : Option Place) (b : ℕ) → c.base % 16 ≡ b % 16 → Found (at_base b c) n g 16 ws f → option_map (λ p. p.start) f ≡ refit_start c n i g ws
   refit_goes g k f b e w = rw (stays_around g ∙ lt-leb (row.start + g) to k) (sym w.lowest ∙ sym (lowest_alike c b 16 e (blocks_in n ws) g))
 
   -- Without that row there are fewer rows, by one less than the free run is cut into for it.

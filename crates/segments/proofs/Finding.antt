@@ -10,7 +10,7 @@ use Rattle.model.proofs.Choosing.{split, tests, parts, every_only, every_weaker,
 use Rattle.model.proofs.Ordered.{Live}
 use Rattle.model.proofs.Offsets.{granule_in, in_granule, granule_before, granule_after}
 use Rattle.segments.specs.Rows.{segment_at, segments_in, blocks_in}
-use Rattle.segments.specs.Tiling.{tiles, is_map}
+use Rattle.segments.specs.Tiling.{tiles, is_map, IsMapWithin}
 use Rattle.segments.specs.Search.{RowOf, Found}
 use Rattle.segments.specs.Changes.{replaced, cut}
 use Rattle.segments.proofs.Reading.{rest, row_parted, row_end, ends_by, tiles_end}
@@ -18,7 +18,7 @@ use Rattle.segments.proofs.Parted.{Parted, part, starts_from, tiles_from}
 use Rattle.segments.proofs.TilesMap.{First, first}
 use Rattle.segments.proofs.Splitting.{split_rows, split_count}
 use Rattle.model.specs.declared.Segment.{Segment}
-use Rattle.segments.specs.declared.Fit.TheVariants as fit
+use Rattle.segments.specs.declared.searching.Place.{Place}
 
 -- a segment without granule i
 abbrev pub lacks : ℕ → Segment → Bool
@@ -56,17 +56,21 @@ over_row c n ws i row m h r =
     (λ q. rw q (first_none (has_granule i) (only is_live zs) after)))
 
 -- The place that first fit found, cut for a block: the map with that block.
-pub found_cut : (c : Config) (n g a : ℕ) (ws : List ℕ) (row s : ℕ) (b : Segment) → is_map c (segments_in n ws) ≡ true → Found c n g a ws (fit.At row s)
-    → Live c b → b.start ≡ s → b.length ≡ g → replaced row 1 (cut (segment_at ws row) b) (segments_in n ws) ≡ map_of c (insert b (blocks_in n ws))
-found_cut c n g a ws row s b m f l p q =
-    split_rows c n ws row b f.room.in_use m f.room.free l (omega (arith, f.room.from)) (omega (arith, f.room.up_to))
+pub found_cut : (c : Config) (n g a : ℕ) (ws : List ℕ) (p : Place) (b : Segment) → is_map c (segments_in n ws) ≡ true → Found c n g a ws (Some p)
+    → Live c b → b.start ≡ p.start → b.length ≡ g → replaced p.row 1 (cut (segment_at ws p.row) b) (segments_in n ws) ≡ map_of c (insert b (blocks_in n ws))
+found_cut c n g a ws p b m f l s q =
+    split_rows c n ws p.row b f.room.in_use m f.room.free l (omega (arith, f.room.from)) (omega (arith, f.room.up_to))
 
 -- The rows are then those before, less the one cut, and those that it is cut into.
-pub found_count : (c : Config) (n g a : ℕ) (ws : List ℕ) (row s : ℕ) (b : Segment) → is_map c (segments_in n ws) ≡ true → Found c n g a ws (fit.At row s)
-    → Live c b → b.start ≡ s → b.length ≡ g → rows_of c (insert b (blocks_in n ws)) ≡ n - 1 + length (cut (segment_at ws row) b)
-found_count c n g a ws row s b m f l p q =
-    split_count c n ws row b f.room.in_use m f.room.free l (omega (arith, f.room.from)) (omega (arith, f.room.up_to))
+pub found_count : (c : Config) (n g a : ℕ) (ws : List ℕ) (p : Place) (b : Segment) → is_map c (segments_in n ws) ≡ true → Found c n g a ws (Some p)
+    → Live c b → b.start ≡ p.start → b.length ≡ g → rows_of c (insert b (blocks_in n ws)) ≡ n - 1 + length (cut (segment_at ws p.row) b)
+found_count c n g a ws p b m f l s q =
+    split_count c n ws p.row b f.room.in_use m f.room.free l (omega (arith, f.room.from)) (omega (arith, f.room.up_to))
 
 -- No row of a map ends after the arena.
 pub row_inside : (c : Config) (n : ℕ) (ws : List ℕ) (i : ℕ) → is_map c (segments_in n ws) ≡ true → i < n → (segment_at ws i).start + (segment_at ws i).length ≤ c.granules
 row_inside c n ws i m h = row_end n c.granules ws i (search parts) h
+
+-- So none ends after the granules that an arena of which the rows are a map has at most.
+pub row_within : (most n : ℕ) (ws : List ℕ) (i : ℕ) (x : Segment) → IsMapWithin most (segments_in n ws) → i < n → x ≡ segment_at ws i → x.start + x.length ≤ most
+row_within most n ws i x m h e = rw e (omega (arith, m.small, row_inside m.arena n ws i m.map h))

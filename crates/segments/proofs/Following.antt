@@ -10,7 +10,7 @@ use Rattle.model.proofs.Choosing.{split, tests, same_test, parts, both_true}
 use Rattle.segments.specs.Tiling.{requested_fits, well_formed}
 use Rattle.segments.specs.Steps.{follows_of}
 use Rattle.model.specs.declared.Segment.{Segment}
-use Rattle.segments.specs.declared.Census.{Census}
+use Rattle.segments.specs.declared.census.Census.{Census}
 
 -- For k granules, g of them a guard's, some bytes, 16 (k - g - 1) + 1 to 16 (k - g), are requested exactly if those bytes with the guard need k granules.
 pub bytes_fit : (g k r : ℕ) → 1 ≤ r → within (16 * (k - g - 1) + 1) (16 * (k - g)) r ≡ eqb (granules_for r + g) k
@@ -23,7 +23,7 @@ bytes_fit g k r h =
 -- What is known of a row that follows.
 pub record Follows (c : Config) (k : Census) (x : Segment) : Type 0 where
   pub start : x.start ≡ k.end
-  pub Some : 1 ≤ x.length
+  pub some : 1 ≤ x.length
   pub most : x.length ≤ c.granules - k.end
   pub formed : well_formed c x ≡ true
   pub owner : x.owner ≤ 8
@@ -46,7 +46,7 @@ module _ (c : Config) (k : Census) (x : Segment) where
       let r : requested_fits c x ≡ true = search parts in
       record {
         start = omega tests;
-        Some = omega tests;
+        some = omega tests;
         most = omega tests;
         formed = w;
         owner = omega tests;

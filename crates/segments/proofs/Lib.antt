@@ -4,8 +4,6 @@ pub mod Rows
 pub mod MapTiles
 pub mod TilesMap
 pub mod Reading
-pub mod Filled
-pub mod Copied
 pub mod Tiled
 pub mod Padding
 pub mod Scanned
@@ -13,9 +11,9 @@ pub mod Apart
 pub mod Following
 pub mod OneCounted
 pub mod AllCounted
-pub mod Moved
-pub mod Replacing
-pub mod Words
+pub mod Tests
+pub mod Cuts
+pub mod Written
 pub mod Rewriting
 pub mod Parted
 pub mod Splitting

@@ -18,7 +18,7 @@ pub tiles_join : (s p e : ℕ) (ys zs : List Segment) → tiles s p ys ≡ true 
 tiles_join s p e [] zs f g = let z : s ≡ p = eqb-true s p f in rw z g
 tiles_join s p e (y ∷ ys) zs f g =
     let h : First s p y ys = first s p y ys f in
-    tiles_cons s e y (ys ++ zs) h.start h.Some (tiles_join (y.start + y.length) p e ys zs h.rest g)
+    tiles_cons s e y (ys ++ zs) h.start h.some (tiles_join (y.start + y.length) p e ys zs h.rest g)
 
 pub record Parted (s e : ℕ) (ys zs : List Segment) : Type 0 where
   pub at : ℕ
@@ -30,7 +30,7 @@ part s e [] zs f = record { at = s; front = eq-eqb s s refl; back = f }
 part s e (y ∷ ys) zs f =
     let h : First s e y (ys ++ zs) = first s e y (ys ++ zs) f in
     let r : Parted (y.start + y.length) e ys zs = part (y.start + y.length) e ys zs h.rest in
-    record { at = r.at; front = tiles_cons s r.at y ys h.start h.Some r.front; back = r.back }
+    record { at = r.at; front = tiles_cons s r.at y ys h.start h.some r.front; back = r.back }
 
 -- a segment begins before a granule, or at it or after it
 abbrev pub starts_before : ℕ → Segment → Bool
@@ -114,7 +114,7 @@ pub record Row (c : Config) (ys : List Segment) (x : Segment) (zs : List Segment
   pub place : Window c ys (x ∷ []) zs
   pub start : place.from ≡ x.start
   pub end : place.to ≡ x.start + x.length
-  pub Some : 1 ≤ x.length
+  pub some : 1 ≤ x.length
   pub lower : every (starts_before x.start) ys ≡ true
   pub higher : every (starts_from (x.start + x.length)) zs ≡ true
   pub apart : apart_from (last_free false ys) (x ∷ zs) ≡ true
@@ -130,7 +130,7 @@ row_of c ys x zs m =
       place = w;
       start = sym f.start;
       end = sym e;
-      Some = f.Some;
+      some = f.some;
       lower = subst (λ (k : ℕ). every (starts_before k) ys ≡ true) (sym f.start) (tiles_before 0 w.from ys w.front);
       higher = tiles_from (x.start + x.length) w.to c.granules zs (omega arith) w.back;
       apart = a;

@@ -222,7 +222,7 @@ module _ (c : Config) (ys zs : List Segment) (x : Segment) (m : is_map c (ys ++ 
       let v : Window c g.before (g.left ++ (x ∷ g.right)) g.after = g.place in
       let p : Parted v.from v.to g.left (x ∷ g.right) = part v.from v.to g.left (x ∷ g.right) v.filled in
       let h : First p.at v.to x g.right = first p.at v.to x g.right p.back in
-      let s : v.from < v.to = omega (arith, tiles_le v.from p.at g.left p.front, tiles_le (x.start + x.length) v.to g.right h.rest, h.start, h.Some) in
+      let s : v.from < v.to = omega (arith, tiles_le v.from p.at g.left p.front, tiles_le (x.start + x.length) v.to g.right h.rest, h.start, h.some) in
       let a : only is_live ys ≡ only is_live g.before =
       ap (only is_live) g.front ∙ only_append is_live g.before g.left ∙ rw (only_none is_free g.left g.left_free) (append-nil (only is_live g.before)) in
       let b : only is_live zs ≡ only is_live g.after =

@@ -17,7 +17,7 @@ use Rattle.segments.specs.Steps.{run_around}
 use Rattle.segments.proofs.MapTiles.{live_map}
 use Rattle.segments.proofs.TilesMap.{formed_live}
 use Rattle.segments.proofs.Rows.{length_segments}
-use Rattle.segments.proofs.Replacing.{cut_length}
+use Rattle.segments.proofs.Cuts.{cut_length}
 use Rattle.segments.proofs.Rewriting.{rows_read, change}
 use Rattle.segments.proofs.Splitting.{split_rows, split_count}
 use Rattle.segments.proofs.Releasing.{release_rows}

@@ -1,6 +1,8 @@
 -- First fit over the rows, one after the other, finds the lowest start.
 -- Assumes nothing.
 use Rattle.std.proofs.Common.{◌≡◌, ℕ, ◌+◌, ◌-◌, ◌*◌, ◌/◌, ◌%◌, ◌^◌, ◌<◌, ◌≤◌, Bool, true, false, not, eqb, leb, List, [], ◌∷◌, sym, refl, ap, ◌∙◌, subst, mod-eq_of_lt, arith, eq-eqb, ne_eqb, eqb-true, le-leb}
+use Rattle.std.specs.Prelude.{Option, Some, None}
+use Rattle.std.specs.Option.{option_map}
 use Rattle.model.specs.Choose.{choose, both, every, only, least_from}
 use Rattle.model.specs.Quantities.{Config, is_alignment}
 use Rattle.model.specs.Allocation.{clear_of, serves, lowest_start}
@@ -10,23 +12,29 @@ use Rattle.model.proofs.Ordered.{Ordered, after_clear, clear_before, clear_all}
 use Rattle.model.proofs.Served.{alignment_granules}
 use Rattle.segments.specs.Rows.{segment_at, segments_in, blocks_in}
 use Rattle.segments.specs.Tiling.{tiles, well_formed, no_two_free, is_map}
-use Rattle.segments.specs.Search.{start_of, Found}
+use Rattle.segments.specs.Search.{Found}
 use Rattle.segments.specs.Steps.{padding}
 use Rattle.segments.proofs.TilesMap.{First, first, ordered_back, apart_tail}
 use Rattle.segments.proofs.Reading.{rest, rest_row, rest_none, tiles_le, row_end}
 use Rattle.segments.proofs.Padding.{Padded, padded}
 use Rattle.model.specs.declared.Segment.{Segment}
-use Rattle.segments.specs.declared.Fit.{Fit}
-use Rattle.segments.specs.declared.Fit.TheVariants as fit
+use Rattle.segments.specs.declared.searching.Place.{Place}
+
+-- The start of a place, if there is one.
+abbrev start_of : Option Place → Option ℕ
+start_of = option_map (λ p. p.start)
+
+abbrev pub place : ℕ → ℕ → Place
+place i s = record { row = i; start = s }
 
 -- A free segment that has g granules from a boundary of m granules on, counted from f granules before the arena's first.
 abbrev pub hit : ℕ → ℕ → ℕ → Segment → Bool
 hit g m f x = both (is_free x) (leb (padding m (f + x.start) + g) x.length)
 
 -- The first of them, from row i on.
-abbrev pub first_hit : ℕ → ℕ → ℕ → ℕ → List Segment → Fit
-first_hit g m f i [] = fit.Nothing
-first_hit g m f i (x ∷ xs) = choose (hit g m f x) (fit.At i (x.start + padding m (f + x.start))) (first_hit g m f (i + 1) xs)
+abbrev pub first_hit : ℕ → ℕ → ℕ → ℕ → List Segment → Option Place
+first_hit g m f i [] = None
+first_hit g m f i (x ∷ xs) = choose (hit g m f x) (Some (place i (x.start + padding m (f + x.start)))) (first_hit g m f (i + 1) xs)
 
 module _ (c : Config) (g m a : ℕ) (hg : 1 ≤ g) (up : (s : ℕ) → Padded m a c.base s) where
   -- a start in a live block does not serve
@@ -103,10 +111,6 @@ module _ (c : Config) (g m a : ℕ) (hg : 1 ≤ g) (up : (s : ℕ) → Padded m 
 pub record Passed (g m f n i : ℕ) (ws : List ℕ) : Type 0 where
   pub same : first_hit g m f 0 (segments_in n ws) ≡ first_hit g m f i (rest n i ws)
 
--- There is no row before row 0.
-pub passed_none : (g m f n : ℕ) (ws : List ℕ) → Passed g m f n 0 ws
-passed_none g m f n ws = record { same = refl }
-
 module _ {g m f n i : ℕ} {ws : List ℕ} (p : Passed g m f n i ws) (h : i < n) (x : Segment) (e : x ≡ segment_at ws i) where
   this_row : rest n i ws ≡ x ∷ rest n (i + 1) ws
   this_row = rest_row n i ws h ∙ ap (λ (y : Segment). y ∷ rest n (i + 1) ws) (sym e)
@@ -116,7 +120,7 @@ module _ {g m f n i : ℕ} {ws : List ℕ} (p : Passed g m f n i ws) (h : i < n)
   passed_one q = record { same = p.same ∙ rw (this_row, q) }
 
   -- row i is the first hit
-  first_at : hit g m f x ≡ true → first_hit g m f 0 (segments_in n ws) ≡ fit.At i (x.start + padding m (f + x.start))
+  first_at : hit g m f x ≡ true → first_hit g m f 0 (segments_in n ws) ≡ Some (place i (x.start + padding m (f + x.start)))
   first_at q = p.same ∙ rw (this_row, q)
 
 -- the lowest start is that of the first hit
@@ -133,12 +137,12 @@ lowest c base n g a ws at_base whole ok hg al =
 module _ (c : Config) {base n g a i : ℕ} {ws : List ℕ} (at_base : c.base ≡ base) (whole : base % 16 ≡ 0) (ok : is_map c (segments_in n ws) ≡ true)
     (hg : 1 ≤ g) (al : is_alignment a ≡ true) (p : Passed g (a / 16) (base / 16) n i ws) where
   -- No row is a hit.
-  pub found_none : n ≤ i → Found c n g a ws fit.Nothing
+  pub found_none : n ≤ i → Found c n g a ws None
   found_none h = record { lowest = lowest c base n g a ws at_base whole ok hg al ∙ ap start_of (p.same ∙ ap (first_hit g (a / 16) (base / 16) i) (rest_none n i ws h)); room = tt }
 
   -- Row i is a hit: it ends in the arena, so the sum that is its start does not wrap.
   pub found_at : c.granules ≤ 4294967295 → i < n → (x : Segment) → x ≡ segment_at ws i → hit g (a / 16) (base / 16) x ≡ true
-      → (s : ℕ) → s ≡ (x.start + padding (a / 16) (base / 16 + x.start)) % 2 ^ 32 → Found c n g a ws (fit.At i s)
+      → (s : ℕ) → s ≡ (x.start + padding (a / 16) (base / 16 + x.start)) % 2 ^ 32 → Found c n g a ws (Some (place i s))
   found_at small h x e q s w =
       let t : tiles 0 c.granules (segments_in n ws) ≡ true = search parts in
       let b : x.start + x.length ≤ c.granules = rw e (row_end n c.granules ws i t h) in
@@ -146,7 +150,7 @@ module _ (c : Config) {base n g a i : ℕ} {ws : List ℕ} (at_base : c.base ≡
       let l : leb (padding (a / 16) (base / 16 + x.start) + g) x.length ≡ true = search parts in
       let z : s ≡ x.start + padding (a / 16) (base / 16 + x.start) = w ∙ mod-eq_of_lt (omega tests) in
       record {
-        lowest = lowest c base n g a ws at_base whole ok hg al ∙ ap start_of (first_at p h x e q ∙ ap (fit.At i) (sym z));
+        lowest = lowest c base n g a ws at_base whole ok hg al ∙ ap start_of (first_at p h x e q ∙ ap (λ (k : ℕ). Some (place i k)) (sym z));
         room = record {
           in_use = h;
           free = sym (ap (λ (y : Segment). y.owner) e) ∙ eqb-true x.owner 0 f;

@@ -13,7 +13,7 @@ use Rattle.model.specs.declared.Segment.{Segment}
 -- what tiles says of the first
 pub record First (s e : ℕ) (x : Segment) (xs : List Segment) : Type 0 where
   pub start : x.start ≡ s
-  pub Some : 1 ≤ x.length
+  pub some : 1 ≤ x.length
   pub rest : tiles (x.start + x.length) e xs ≡ true
 
 pub first : (s e : ℕ) (x : Segment) (xs : List Segment) → tiles s e (x ∷ xs) ≡ true → First s e x xs
@@ -21,7 +21,7 @@ first s e x xs t =
     let p : eqb x.start s ≡ true = search parts in
     let q : leb 1 x.length ≡ true = search parts in
     let r : tiles (s + x.length) e xs ≡ true = search parts in
-    record { start = eqb-true x.start s p; Some = omega tests; rest = subst (λ (k : ℕ). tiles (k + x.length) e xs ≡ true) (sym (eqb-true x.start s p)) r }
+    record { start = eqb-true x.start s p; some = omega tests; rest = subst (λ (k : ℕ). tiles (k + x.length) e xs ≡ true) (sym (eqb-true x.start s p)) r }
 
 -- a well-formed segment is live or a free run
 pub formed_live : (c : Config) (x : Segment) → eqb x.owner 0 ≡ false → well_formed c x ≡ true → Live c x

@@ -1,24 +1,19 @@
 -- What is looked for in the rows: the row of a granule, the place that first fit names, and the start of a block with another length.
 -- Assumes nothing.
-use Rattle.std.specs.Prelude.{◌≡◌, ℕ, ◌+◌, ◌<◌, ◌≤◌, true, List, Option, None, Some}
+use Rattle.std.specs.Prelude.{◌≡◌, ℕ, ◌+◌, ◌<◌, ◌≤◌, true, List, Option, Some, IfSome}
+use Rattle.std.specs.Option.{option_map}
 use Rattle.model.specs.Choose.{choose}
 use Rattle.model.specs.Quantities.{Config}
 use Rattle.model.specs.Allocation.{room, lowest_start, offset, has_granule, without}
 use Rattle.segments.specs.Rows.{segment_at, segments_in, blocks_in}
 use Rattle.segments.specs.Tiling.{tiles}
 use Rattle.model.specs.declared.Segment.{Segment}
-use Rattle.segments.specs.declared.Fit.{Fit}
-use Rattle.segments.specs.declared.Fit.TheVariants as fit
+use Rattle.segments.specs.declared.searching.Place.{Place}
 
 -- A row of n, in use, and the one with granule x if the rows tile an arena that has x.
 pub record RowOf (n x : ℕ) (ws : List ℕ) (row : ℕ) : Type 0 where
   pub in_use : row < n
   pub has : (e : ℕ) → tiles 0 e (segments_in n ws) ≡ true → x < e → has_granule x (segment_at ws row) ≡ true
-
--- The start of a fit.
-abbrev pub start_of : Fit → Option ℕ
-start_of (fit.At row start) = Some start
-start_of fit.Nothing = None
 
 -- A row in use is free, and has g granules from s on.
 pub record Room (n g : ℕ) (ws : List ℕ) (row s : ℕ) : Type 0 where
@@ -27,15 +22,10 @@ pub record Room (n g : ℕ) (ws : List ℕ) (row s : ℕ) : Type 0 where
   pub from : (segment_at ws row).start ≤ s
   pub up_to : s + g ≤ (segment_at ws row).start + (segment_at ws row).length
 
--- The row of a fit has the room.
-abbrev pub HasRoom : ℕ → ℕ → List ℕ → Fit → Type 0
-HasRoom n g ws (fit.At row start) = Room n g ws row start
-HasRoom n g ws fit.Nothing = Unit {0}
-
 -- What first fit finds in n rows that are a map: the lowest start that serves g granules on a boundary of a bytes beside the live blocks, and its row.
-pub record Found (c : Config) (n g a : ℕ) (ws : List ℕ) (found : Fit) : Type 0 where
-  pub lowest : lowest_start c (blocks_in n ws) g a ≡ start_of found
-  pub room : HasRoom n g ws found
+pub record Found (c : Config) (n g a : ℕ) (ws : List ℕ) (found : Option Place) : Type 0 where
+  pub lowest : lowest_start c (blocks_in n ws) g a ≡ option_map (λ p. p.start) found
+  pub room : IfSome found (λ p. Room n g ws p.row p.start)
 
 -- The blocks but for the one in row i of n.
 abbrev pub others : ℕ → ℕ → List ℕ → List Segment

@@ -1,21 +1,13 @@
 -- What the functions within the crate do, step by step: a caller needs none of it.
 -- Assumes nothing.
-use Rattle.std.specs.Prelude.{ℕ, ◌+◌, ◌-◌, ◌%◌, max, Bool, true, false, not, List, ◌++◌, take, drop, replicate, ◌==◌, nat_le, nat_lt, slice_index, slice_set}
+use Rattle.std.specs.Prelude.{ℕ, ◌+◌, ◌-◌, ◌%◌, max, Bool, true, false, not, List, replicate, ◌==◌, nat_le, nat_lt, slice_index, slice_set}
 use Rattle.model.specs.Choose.{choose, both}
 use Rattle.model.specs.Quantities.{Config}
 use Rattle.model.specs.SegmentMap.{is_free, free_run}
 use Rattle.segments.specs.Rows.{segment_at}
 use Rattle.segments.specs.Tiling.{well_formed}
 use Rattle.model.specs.declared.Segment.{Segment}
-use Rattle.segments.specs.declared.Census.{Census}
-
--- A part of a table in which a row is opened: its first n words stand one row higher, over the row after them; the first row stays as it was.
-abbrev pub opened : ℕ → List ℕ → List ℕ
-opened n ws = take 4 ws ++ (take n ws ++ drop (n + 4) ws)
-
--- A part of a table in which its first row is closed: the n words after that row stand one row lower, and the row that they leave is zero.
-abbrev pub closed : ℕ → List ℕ → List ℕ
-closed n ws = take n (drop 4 ws) ++ (replicate 4 0 ++ drop (n + 4) ws)
+use Rattle.segments.specs.declared.census.Census.{Census}
 
 -- From s it is so many granules to the next multiple of m, none if s is one.
 abbrev pub padding : ℕ → ℕ → ℕ
@@ -23,7 +15,7 @@ padding m s = (m - s % m) % m
 
 -- The count before the first row.
 abbrev pub none_counted : Census
-none_counted = record { ok = true; end = 0; after_free = false; used = 0; longest = 0; blocks = replicate 8 0; held = replicate 8 0 }
+none_counted = record { end = 0; after_free = false; used = 0; longest = 0; blocks = replicate 8 0; held = replicate 8 0 }
 
 -- A row may follow those counted: it begins where they end, is at least 1 long, ends in the arena, is well formed, and is not the second free one of two that touch.
 unfoldable pub follows_of : Config → Census → Segment → Bool
@@ -34,15 +26,10 @@ follows_of c k x =
     (both (well_formed c x)
     (not (both k.after_free (is_free x))))))
 
--- The count of rows that are no map: its figures stay as they were.
-abbrev pub broken_of : Census → Census
-broken_of k = record { ok = false; end = k.end; after_free = k.after_free; used = k.used; longest = k.longest; blocks = k.blocks; held = k.held }
-
 -- The count with a free row of so many granules.
 abbrev pub free_of : Census → ℕ → Census
 free_of k n =
     record {
-      ok = k.ok;
       end = k.end + n;
       after_free = true;
       used = k.used;
@@ -55,7 +42,6 @@ free_of k n =
 abbrev pub live_of : Census → ℕ → ℕ → Census
 live_of k o n =
     record {
-      ok = k.ok;
       end = k.end + n;
       after_free = false;
       used = k.used + n;
@@ -63,13 +49,6 @@ live_of k o n =
       blocks = slice_set k.blocks (o - 1) (slice_index k.blocks (o - 1) + 1);
       held = slice_set k.held (o - 1) (slice_index k.held (o - 1) + n);
     }
-
--- The count with one row more; once a row does not follow, it stays as it is.
-unfoldable pub counted_of : Config → Census → Segment → Census
-counted_of c k x =
-    choose k.ok
-    (choose (follows_of c k x) (choose (is_free x) (free_of k x.length) (live_of k x.owner x.length)) (broken_of k))
-    k
 
 -- The free run that row i leaves when it is released begins at the row before it if that is free, else at row i.
 abbrev pub run_from : ℕ → List ℕ → ℕ

@@ -1,6 +1,6 @@
--- Which rows are those of an arena: the conditions of document 01's "sound" on the rows in use.
+-- Which rows are those of an arena.
 -- Assumes nothing.
-use Rattle.std.specs.Prelude.{ℕ, ◌+◌, ◌-◌, ◌*◌, Bool, true, not, List, [], ◌∷◌, ◌==◌, nat_le}
+use Rattle.std.specs.Prelude.{◌≡◌, ℕ, ◌+◌, ◌-◌, ◌*◌, ◌≤◌, Bool, true, not, List, [], ◌∷◌, ◌==◌, nat_le}
 use Rattle.model.specs.Choose.{choose, both, every}
 use Rattle.model.specs.Quantities.{within, Config}
 use Rattle.model.specs.SegmentMap.{is_free}
@@ -30,3 +30,9 @@ no_two_free (x ∷ y ∷ ys) = both (not (both (is_free x) (is_free y))) (no_two
 -- Rows are a map if they tile the arena, each is well formed, and no two free ones touch.
 abbrev pub is_map : Config → List Segment → Bool
 is_map c xs = both (tiles 0 c.granules xs) (both (every (well_formed c) xs) (no_two_free xs))
+
+-- Rows are a map of some arena of at most so many granules.
+pub record IsMapWithin (most : ℕ) (xs : List Segment) : Type 0 where
+  pub arena : Config
+  pub small : arena.granules ≤ most
+  pub map : is_map arena xs ≡ true

@@ -1,0 +1,34 @@
+-- `segments::searching::first_fit` meets its contract. The loop's invariant: no row before row `i` is a hit.
+-- The measure is the rows left. Assumes nothing.
+use Rattle.std.proofs.Common.{ℕ, ◌+◌, ◌%◌, ◌^◌, ap, ◌∙◌, arith, eq-eqb, ne_eqb, le-leb}
+use borrow.Author.Tests.{lt-leb}
+use Rattle.segments.proofs.Padding.{padding_past}
+use Rattle.segments.proofs.Scanned.{passed_one, found_none, found_at}
+use Rattle.segments.proofs.searching.first_fit.Goals as goal
+use Rattle.segments.proofs.searching.first_fit.Goals.{then-s-eq0+else-skipped-need, else-s-eq0}
+
+pub loop-i-preserved : goal.loop-i-preserved
+loop-i-preserved c =
+    let l = c.loop-i in
+    let r = c.row-s in (
+      omega arith,
+      passed_one l.invariant.1 (omega arith) r.result r.ensures
+          (elim c.if-s-eq0.branch [
+            | then-s-eq0+else-skipped-need w ↦ rw (eq-eqb r.result.owner 0 w.if-s-eq0.true) (omega (arith, lt-leb, w.padding_of-skipped.ensures.answer ∙ padding_past _ _ _, w.if-skipped-need.false))
+            | else-s-eq0 w ↦ rw (ne_eqb r.result.owner 0 w.if-s-eq0.false)
+          ]),
+    )
+
+pub returns-then-rows-i : goal.returns-then-rows-i
+returns-then-rows-i c config at_base small ok =
+    found_none config at_base c.requires.base ok c.requires.some c.requires.align c.loop-i.invariant.1 (omega arith)
+
+pub returns-then-skipped-need : goal.returns-then-skipped-need
+returns-then-skipped-need c config at_base small ok =
+    let l = c.loop-i in
+    let r = c.row-s in
+    let p = c.padding_of-skipped in
+    let e = p.ensures.answer ∙ padding_past _ _ _ in
+    found_at config at_base c.requires.base ok c.requires.some c.requires.align l.invariant.1 small (omega arith) r.result r.ensures
+    (rw (eq-eqb r.result.owner 0 c.if-s-eq0.true) (omega (arith, le-leb, e)))
+    _ (ap (λ (k : ℕ). (r.result.start + k) % 2 ^ 32) e)
