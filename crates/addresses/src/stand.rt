@@ -99,7 +99,7 @@ pub fn init(
         granule_quotas: [65536, 0, 0, 0, 0, 0, 0, 0],
         block_quotas: [blocks, 0, 0, 0, 0, 0, 0, 0],
     };
-    let out = heap::init(arena, table, plan);
+    let out = Heap::init(arena, table, plan);
     let making = Making {
         answer: out.answer,
         bytes,

@@ -32,7 +32,7 @@ impl<'a, R: Print> Counter<'a, R> {
             granule_quotas: [10, 10, 8, 0, 0, 0, 0, 0],
             block_quotas: [3, 3, 2, 0, 0, 0, 0, 0],
         };
-        let out = heap::init(&mut arena, &mut table, plan);
+        let out = Heap::init(&mut arena, &mut table, plan);
         let making = Making {
             answer: out.answer,
             bytes: arena.len(),

@@ -19,7 +19,7 @@ fn init(rt: &impl Print, arena: &mut [u8], table: &mut [u32]) -> io::Result<Heap
         granule_quotas: [65536, 0, 0, 0, 0, 0, 0, 0],
         block_quotas: [256, 0, 0, 0, 0, 0, 0, 0],
     };
-    let out = heap::init(arena, table, plan);
+    let out = Heap::init(arena, table, plan);
     let making = Making {
         answer: out.answer,
         bytes,

@@ -6,6 +6,7 @@ mod cases;
 mod stand;
 mod validity;
 
+use heap::Heap;
 use printing::Call::Alloc;
 use stand::Step::{In, Init};
 use stand::{Stand, run, run_on};
@@ -58,7 +59,7 @@ fn other_arenas(rt: &impl Print) -> io::Result<()> {
     stand.run(&[Init { guarded: true }])?;
     let heap = stand.heap;
     print!(rt; "with a zero record, ")?;
-    stand.heap = heap::zero_heap();
+    stand.heap = Heap::zero();
     stand.run(&[In(240, 1, Alloc { size: 16 })])?;
     stand.heap = heap;
     stand.run(&cases::GUARDED_IN_OTHERS)?;

@@ -52,7 +52,7 @@ impl<'r, 'a, R: Print> Stand<'r, 'a, R> {
         Stand {
             rt,
             base,
-            heap: heap::zero_heap(),
+            heap: Heap::zero(),
             table,
             arena,
             other: [5; 256],
@@ -102,7 +102,7 @@ impl<'r, 'a, R: Print> Stand<'r, 'a, R> {
             granule_quotas: [65536, 4, 0, 0, 0, 0, 0, 0],
             block_quotas: [256, 2, 0, 0, 0, 0, 0, 0],
         };
-        let out = heap::init(self.arena, self.table, plan);
+        let out = Heap::init(self.arena, self.table, plan);
         self.heap = out.heap;
         let making = Making {
             answer: out.answer,

@@ -86,7 +86,7 @@ fn unsound(stand: &mut Stand<'_, impl Print>) -> io::Result<()> {
     realloc_as(stand, heap, 41)?;
     stand.table[3] = 33;
     print!(stand.rt; "with a zero record, ")?;
-    realloc_as(stand, heap::zero_heap(), 41)
+    realloc_as(stand, Heap::zero(), 41)
 }
 
 // The block at 48, with another record, which is dropped afterwards.
@@ -106,7 +106,7 @@ fn realloc_as(stand: &mut Stand<'_, impl Print>, mut heap: Heap, to: u32) -> io:
 fn other_arenas(stand: &mut Stand<'_, impl Print>) -> io::Result<()> {
     print!(stand.rt; "with a zero record, ")?;
     let heap = stand.heap;
-    stand.heap = heap::zero_heap();
+    stand.heap = Heap::zero();
     realloc_in(stand, &mut [0; 240], 1, 41)?;
     stand.heap = heap;
     realloc_in(stand, &mut [0; 240], 1, 41)?;

@@ -40,7 +40,7 @@ impl<'a, R: Print> Stand<'a, R> {
             granule_quotas: [65536, 4, 0, 0, 0, 0, 0, 0],
             block_quotas: [256, 1, 0, 0, 0, 0, 0, 0],
         };
-        let out = heap::init(&mut arena, &mut table, plan);
+        let out = Heap::init(&mut arena, &mut table, plan);
         let making = Making {
             answer: out.answer,
             bytes: arena.len(),
