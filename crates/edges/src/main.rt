@@ -1,159 +1,151 @@
-// Document 01's "Run:" cases, in its order and under its words. Each call is printed with its answer, `ok` and the value or `no` and document 01's
-// number. What 01's rules give stands in `stdout`, beside `src/`.
+//! The least and the largest that a heap accepts or serves, one step past each, and a return between two holes. Each call is printed with its answer, `ok`
+//! and the value or `no` and the number of its refusal. What the rules give stands in `stdout`, beside `src/`.
 #![tactic(auto)]
 
 use heap::Heap;
 use model::Plan;
-use printing::{print_freed, print_made, print_placed, print_rows, print_value};
+use printing::Call::{self, Alloc, AllocAligned, Free};
+use printing::{Making, Rows, Shown, carry_out};
+use std::io;
 
-fn print_capacity(rows: usize) {
-    print_value(b" bytes ", rows as u64);
-    if rows == 1 {
-        io::write_all(1, b" row");
-    } else {
-        io::write_all(1, b" rows");
-    }
-}
-
-// Owner 1 has the largest quotas there are, so 5 and 6 never apply.
-fn init(arena: &mut [u8], table: &mut [u32]) -> Heap {
-    let bytes = arena.len() as u64;
-    print_value(b"init ", bytes);
-    print_capacity(table.len() / 4);
+// Owner 1 has the largest quotas there are, so refusals 5 and 6 never apply.
+fn init(rt: &impl Print, arena: &mut [u8], table: &mut [u32]) -> io::Result<Heap> {
+    let bytes = arena.len();
+    let rows = table.len() / 4;
+    let noun = if rows == 1 { "row" } else { "rows" };
     let plan = Plan {
         base: 0,
         guarded: false,
         granule_quotas: [65536, 0, 0, 0, 0, 0, 0, 0],
         block_quotas: [256, 0, 0, 0, 0, 0, 0, 0],
     };
-    let out = heap::init(arena, table, plan);
-    let made = out.made;
-    print_made(made, bytes);
-    out.heap
+    let out = Heap::init(arena, table, plan);
+    let making = Making {
+        answer: out.answer,
+        bytes,
+    };
+    println!(rt; "init {bytes} bytes {rows} {noun}: {making}")?;
+    Ok(out.heap)
 }
 
-fn alloc(heap: Heap, table: &mut [u32], size: u32) -> Heap {
-    print_value(b"alloc ", size as u64);
-    let mut unread = [0u8; 1];
-    let out = heap::alloc(heap, table, &mut unread, 1, size);
-    let placed = out.placed;
-    print_placed(placed);
-    out.heap
+// Owner 1's calls, one after the other.
+fn run(
+    rt: &impl Print,
+    heap: &mut Heap,
+    arena: &mut [u8],
+    table: &mut [u32],
+    calls: &[Call],
+) -> io::Result<()> {
+    for &call in calls {
+        let answer = Shown(carry_out(heap, table, arena, 1, call));
+        println!(rt; "{call}: {answer}")?;
+    }
+    Ok(())
 }
 
-fn alloc_aligned(heap: Heap, table: &mut [u32], size: u32, align: u32) -> Heap {
-    print_value(b"alloc ", size as u64);
-    print_value(b" on ", align as u64);
-    let mut unread = [0u8; 1];
-    let out = heap::alloc_aligned(heap, table, &mut unread, 1, size, align);
-    let placed = out.placed;
-    print_placed(placed);
-    out.heap
-}
-
-fn free(heap: Heap, table: &mut [u32], arena: &mut [u8], offset: u32) -> Heap {
-    print_value(b"free ", offset as u64);
-    let out = heap::free(heap, table, arena, 1, offset);
-    let freed = out.freed;
-    print_freed(freed);
-    out.heap
+// The same on a new heap.
+fn run_on_new(
+    rt: &impl Print,
+    arena: &mut [u8],
+    table: &mut [u32],
+    calls: &[Call],
+) -> io::Result<()> {
+    let mut heap = init(rt, arena, table)?;
+    run(rt, &mut heap, arena, table, calls)
 }
 
 // A block at 0 comes first, so that an alignment shows in the offset.
-fn alignments() {
-    io::write_all(
-        1,
-        b"alignment 16 and 4,096 accepted, 8, 24 and 8,192 refused\n",
-    );
-    let mut table = [0u32; 32];
-    let mut arena = [0u8; 8192];
-    let mut h = init(&mut arena, &mut table);
-    h = alloc_aligned(h, &mut table, 16, 16);
-    h = alloc_aligned(h, &mut table, 16, 16);
-    h = alloc_aligned(h, &mut table, 16, 4096);
-    h = alloc_aligned(h, &mut table, 16, 8);
-    h = alloc_aligned(h, &mut table, 16, 24);
-    alloc_aligned(h, &mut table, 16, 8192);
-}
+const ALIGNMENTS: [Call; 6] = [
+    AllocAligned { size: 16, on: 16 },
+    AllocAligned { size: 16, on: 16 },
+    AllocAligned { size: 16, on: 4096 },
+    AllocAligned { size: 16, on: 8 },
+    AllocAligned { size: 16, on: 24 },
+    AllocAligned { size: 16, on: 8192 },
+];
 
 // The accepted arena serves one granule, and no more.
-fn arenas() {
-    io::write_all(1, b"\narena 16 accepted, 0 and 24 refused\n");
-    let mut table = [0u32; 4];
-    let mut least = [0u8; 16];
-    let mut none = [0u8; 0];
-    let mut uneven = [0u8; 24];
-    let mut h = init(&mut least, &mut table);
-    h = alloc(h, &mut table, 16);
-    alloc(h, &mut table, 1);
-    init(&mut none, &mut table);
-    init(&mut uneven, &mut table);
+fn arenas(rt: &impl Print) -> io::Result<()> {
+    let mut table = [0; 4];
+    let calls = [Alloc { size: 16 }, Alloc { size: 1 }];
+    run_on_new(rt, &mut [0; 16], &mut table, &calls)?;
+    init(rt, &mut [0; 0], &mut table)?;
+    init(rt, &mut [0; 24], &mut table)?;
+    Ok(())
 }
 
 // The whole arena by one block, then its last free run by a second; a byte more is refused each time.
-fn exact_fill() {
-    io::write_all(1, b"\nan ask that fills the arena exactly is granted\n");
-    let mut table = [0u32; 8];
-    let mut arena = [0u8; 128];
-    let mut h = init(&mut arena, &mut table);
-    h = alloc(h, &mut table, 129);
-    alloc(h, &mut table, 128);
-    h = init(&mut arena, &mut table);
-    h = alloc(h, &mut table, 48);
-    h = alloc(h, &mut table, 81);
-    h = alloc(h, &mut table, 80);
-    alloc(h, &mut table, 1);
+fn exact_fill(rt: &impl Print) -> io::Result<()> {
+    let mut table = [0; 8];
+    let mut arena = [0; 128];
+    let whole = [Alloc { size: 129 }, Alloc { size: 128 }];
+    run_on_new(rt, &mut arena, &mut table, &whole)?;
+    let parts = [
+        Alloc { size: 48 },
+        Alloc { size: 81 },
+        Alloc { size: 80 },
+        Alloc { size: 1 },
+    ];
+    run_on_new(rt, &mut arena, &mut table, &parts)
 }
 
 // Each size is asked of a new heap: 48 bytes would leave a rest, which needs a second row.
-fn one_row() {
-    io::write_all(1, b"\nwith 4 granules, 1 row and ample limits, ");
-    io::write_all(1, b"an ask for 64 bytes is granted and one for 48 is 8\n");
-    let mut table = [0u32; 4];
-    let mut arena = [0u8; 64];
-    let mut h = init(&mut arena, &mut table);
-    alloc(h, &mut table, 64);
-    h = init(&mut arena, &mut table);
-    alloc(h, &mut table, 48);
+fn one_row(rt: &impl Print) -> io::Result<()> {
+    let mut table = [0; 4];
+    let mut arena = [0; 64];
+    for size in [64, 48] {
+        run_on_new(rt, &mut arena, &mut table, &[Alloc { size }])?;
+    }
+    Ok(())
 }
 
-// Three neighbours, at 16, 64 and 96, with a live block on either side.
-fn alloc_five(heap: Heap, table: &mut [u32; 32]) -> Heap {
-    let mut h = heap;
-    h = alloc(h, table, 16);
-    h = alloc(h, table, 40);
-    h = alloc(h, table, 20);
-    h = alloc(h, table, 64);
-    h = alloc(h, table, 30);
-    h
+// Three neighbours, at 16, 64 and 96, with a live block on either side. The outer two of the three come back first.
+const OUTER_TWO: [Call; 7] = [
+    Alloc { size: 16 },
+    Alloc { size: 40 },
+    Alloc { size: 20 },
+    Alloc { size: 64 },
+    Alloc { size: 30 },
+    Free { at: 16 },
+    Free { at: 96 },
+];
+
+// The one between the holes comes back last. The free row at 192 touches none of them, and stays by itself.
+fn between_holes(rt: &impl Print) -> io::Result<()> {
+    let mut table = [0; 32];
+    let mut arena = [0; 256];
+    let mut heap = init(rt, &mut arena, &mut table)?;
+    run(rt, &mut heap, &mut arena, &mut table, &OUTER_TWO)?;
+    let in_use = heap.rows;
+    println!(rt;
+        "{}",
+        Rows {
+            in_use,
+            table: &table
+        }
+    )?;
+    run(rt, &mut heap, &mut arena, &mut table, &[Free { at: 64 }])?;
+    let in_use = heap.rows;
+    println!(rt;
+        "{}",
+        Rows {
+            in_use,
+            table: &table
+        }
+    )
 }
 
-// The outer two of the three first, then the one between the holes. The free row at 192 touches none of them, and stays by itself.
-fn free_three(heap: Heap, table: &mut [u32; 32], arena: &mut [u8; 256]) {
-    let mut h = heap;
-    h = free(h, table, arena, 16);
-    h = free(h, table, arena, 96);
-    print_rows(h.rows, table);
-    h = free(h, table, arena, 64);
-    print_rows(h.rows, table);
-}
-
-fn between_holes() {
-    io::write_all(
-        1,
-        b"\na return between two holes leaves one row of the three\n",
-    );
-    let mut table = [0u32; 32];
-    let mut arena = [0u8; 256];
-    let mut h = init(&mut arena, &mut table);
-    h = alloc_five(h, &mut table);
-    free_three(h, &mut table, &mut arena);
-}
-
-fn main() {
-    alignments();
-    arenas();
-    exact_fill();
-    one_row();
-    between_holes();
+fn main(rt: HostRuntime) -> io::Result<()> {
+    println!(rt; "alignment 16 and 4,096 accepted, 8, 24 and 8,192 refused")?;
+    run_on_new(&rt, &mut [0; 8192], &mut [0; 32], &ALIGNMENTS)?;
+    println!(rt; "\narena 16 accepted, 0 and 24 refused")?;
+    arenas(&rt)?;
+    println!(rt; "\nan ask that fills the arena exactly is granted")?;
+    exact_fill(&rt)?;
+    println!(rt;
+        "\nwith 4 granules, 1 row and ample limits, an ask for 64 bytes is granted and one for 48 is 8"
+    )?;
+    one_row(&rt)?;
+    println!(rt; "\na return between two holes leaves one row of the three")?;
+    between_holes(&rt)
 }

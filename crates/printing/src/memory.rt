@@ -1,0 +1,62 @@
+//! A heap's bytes and rows, as they are printed, and writes into its arena.
+
+ghost use Rattle.std.specs.Prelude.{◌≡◌, ◌+◌, ◌*◌, ◌<◌, ◌≤◌, length, replicate};
+ghost use Rattle.model.specs.Arena.{written};
+
+use std::fmt;
+
+/// Sets `count` bytes from `at` on to a value. A run that does not lie in the arena is not written.
+pub fn write(arena: &mut [u8], count: usize, value: u8, at: usize)
+    ensures inside { at + count ≤ length arena.old → arena.new ≡ written at (replicate count value) arena.old }
+    ensures outside { length arena.old < at + count → arena.new ≡ arena.old }
+{
+    if at <= arena.len() && count <= arena.len() - at {
+        arena[at..at + count].fill(value);
+    }
+}
+
+/// All bytes of an arena, as runs of equal ones: where each begins, and its value.
+#[derive(Drop)]
+pub struct Bytes<'a>(pub &'a [u8]);
+
+impl fmt::Display for Bytes<'_> {
+    fn fmt<W: fmt::Write>(&self, f: &mut fmt::Formatter<W>) -> fmt::Result {
+        f.write_str("bytes")?;
+        let mut last = None;
+        for (at, value) in self.0.iter().copied().enumerate() {
+            if last != Some(value) {
+                write!(f, " {at}:{value}")?;
+                last = Some(value);
+            }
+        }
+        Ok(())
+    }
+}
+
+/// The rows of a table that are in use, on one line.
+#[derive(Drop)]
+pub struct Rows<'a> {
+    pub in_use: u32,
+    pub table: &'a [u32],
+}
+
+impl fmt::Display for Rows<'_> {
+    fn fmt<W: fmt::Write>(&self, f: &mut fmt::Formatter<W>) -> fmt::Result {
+        write!(f, "rows {}", self.in_use)?;
+        let rows = self.table.len() / 4;
+        for i in 0..rows.min(self.in_use as usize) {
+            write_row(f, self.table, i)?;
+        }
+        Ok(())
+    }
+}
+
+// Row i: start, length, owner and requested, all but the owner in bytes.
+fn write_row<W: fmt::Write>(f: &mut fmt::Formatter<W>, table: &[u32], i: usize) -> fmt::Result
+    requires { 4 * i + 4 ≤ length table.now }
+{
+    let row = segments::row(table, i);
+    let start = u64::from(row.start) * 16;
+    let length = u64::from(row.length) * 16;
+    write!(f, " | {start} {length} {} {}", row.owner, row.requested)
+}

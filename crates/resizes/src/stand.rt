@@ -1,0 +1,108 @@
+//! The heap that each case has to itself, and the steps that a case is made of.
+
+use heap::Heap;
+use model::Plan;
+use printing::{Bytes, Call, Granted, Making, Rows, Shown, trace, write};
+use std::io;
+
+/// One step of a case.
+#[derive(Clone, Copy, Debug, PartialEq, Eq)]
+pub enum Step {
+    /// A call by an owner.
+    By(u32, Call),
+    /// A resize by owner 1, and what it leaves.
+    Resize { at: u32, to: u32 },
+    /// A task, or a stray hand in free memory, sets so many bytes to a value, from an offset on.
+    Write(usize, u8, usize),
+    /// The rows and the bytes as they stand.
+    Show,
+    /// The totals as they stand.
+    Totals,
+}
+
+/// A heap of 16 granules with a table of 8 rows, whose calls are printed with their answers.
+#[derive(Drop)]
+pub struct Stand<'a, R> {
+    pub rt: &'a R,
+    pub heap: Heap,
+    pub table: [u32; 32],
+    pub arena: [u8; 256],
+}
+
+impl<'a, R: Print> Stand<'a, R> {
+    /// Owner 1 has the largest quotas there are, owner 2 has 4 granules and 1 block.
+    pub fn init(rt: &'a R) -> io::Result<Stand<'a, R>> {
+        let mut table = [0; 32];
+        let mut arena = [0; 256];
+        let plan = Plan {
+            base: 0,
+            guarded: false,
+            granule_quotas: [65536, 4, 0, 0, 0, 0, 0, 0],
+            block_quotas: [256, 1, 0, 0, 0, 0, 0, 0],
+        };
+        let out = Heap::init(&mut arena, &mut table, plan);
+        let making = Making {
+            answer: out.answer,
+            bytes: arena.len(),
+        };
+        println!(rt; "init 256 bytes 8 rows: {making}")?;
+        Ok(Stand {
+            rt,
+            heap: out.heap,
+            table,
+            arena,
+        })
+    }
+
+    /// Carries the steps out, one after the other.
+    pub fn run(&mut self, steps: &[Step]) -> io::Result<()> {
+        for &step in steps {
+            self.carry_out(step)?;
+        }
+        Ok(())
+    }
+
+    fn carry_out(&mut self, step: Step) -> io::Result<()> {
+        match step {
+            Step::By(owner, call) => self.call(owner, call),
+            Step::Resize { at, to } => {
+                self.call(1, Call::Realloc { at, to })?;
+                self.show()
+            }
+            Step::Write(count, value, at) => {
+                write(&mut self.arena, count, value, at);
+                println!(self.rt; "write {count} of {value} at {at}")
+            }
+            Step::Show => self.show(),
+            Step::Totals => {
+                let totals = driver::totals(&self.heap, &self.table);
+                println!(self.rt; "totals: {}", Shown(totals.map(Granted::Totals)))
+            }
+        }
+    }
+
+    fn call(&mut self, owner: u32, call: Call) -> io::Result<()> {
+        trace(
+            self.rt,
+            &mut self.heap,
+            &mut self.table,
+            &mut self.arena,
+            owner,
+            call,
+        )
+    }
+
+    fn show(&self) -> io::Result<()> {
+        let rows = Rows {
+            in_use: self.heap.rows,
+            table: &self.table,
+        };
+        println!(self.rt; "{rows}")?;
+        println!(self.rt; "{}", Bytes(&self.arena))
+    }
+}
+
+/// Carries the steps of a case out on a heap of its own.
+pub fn run(rt: &impl Print, steps: &[Step]) -> io::Result<()> {
+    Stand::init(rt)?.run(steps)
+}
