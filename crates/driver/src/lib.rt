@@ -1,5 +1,8 @@
 //! The drivers' layer: the heap's record is lent, and updated where it stands. Each call does what the one of `heap` with the same name does: the same
 //! answer, and the same record, words and bytes afterwards. Making is not here, since there is no record yet to lend.
+//!
+//! The calls that change the record are alike but for the call of the core: one function that takes that call as a closure would be no shorter, and its
+//! promise would speak of any call. The record, the table and the arena are lent each by itself, as a rule of the project.
 #![tactic(auto)]
 
 ghost use Rattle.std.specs.Prelude.{◌≡◌};

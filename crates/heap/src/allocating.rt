@@ -69,6 +69,7 @@ impl Heap {
         Ok(())
     }
 
+    // Not one function with `seek_refit`: what is looked for, and the rows that are counted afterwards, are others.
     /// 7, 8: the place of an allocation that 1, 2, 3 and 4 do not refuse.
     fn seek(self, table: &[u32], owner: u32, size: u32, align: u32) -> Result<Place, Refusal>
         requires valid { valid self table.now ≡ true }
@@ -141,6 +142,7 @@ impl Heap {
         }
     }
 
+    // Not one call with an optional alignment: both are calls by these names, each with its own order of refusal.
     /// An allocation that names no alignment: on a boundary of 16 bytes, as every start is. Refused with 1, 11 in a heap with guards, 2, 3, 5 to 8, in this
     /// order.
     pub fn alloc(self, table: &mut [u32], arena: &mut [u8], owner: u32, size: u32) -> Outcome<u32>

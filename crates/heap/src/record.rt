@@ -8,6 +8,7 @@ use model::{InitRefusal, Refusal};
 
 /// The heap record: the table's rows, the rows in use, the arena's granules, the address of its first byte, the granules of each block's guard (1, or 0 if
 /// there are no guards), used and peak in granules, and the quotas of owners 1 to 8.
+// Its fields are open and have no invariant, `guards` is a number and the quotas are two arrays: any record may come in, and 1 tells which are no heap.
 #[derive(Clone, Copy, Debug, PartialEq, Eq)]
 pub struct Heap {
     pub capacity: u32,
@@ -22,6 +23,7 @@ pub struct Heap {
 }
 
 /// What a making answers, and the record that it makes: all zero if it is refused.
+// The record stands beside the answer and not in it: a refused making has one too (`calls.after_init`).
 #[derive(Clone, Copy, Debug, PartialEq, Eq)]
 pub struct Initialized {
     pub answer: Result<(), InitRefusal>,
