@@ -45,6 +45,7 @@ impl<'r, 'a, R: Print> Stand<'r, 'a, R> {
     }
 
     /// Carries the steps out, one after the other.
+    // Written out in each program: a function of the steps and of what carries one out would be no shorter.
     pub fn run(&mut self, steps: &[Step]) -> io::Result<()> {
         for &step in steps {
             self.carry_out(step)?;
@@ -71,6 +72,7 @@ impl<'r, 'a, R: Print> Stand<'r, 'a, R> {
         println!(rt; "owner 1 {call}: {}", Addressed { base, answer })
     }
 
+    // These print what this stand keeps; shared with another program they would have to be handed all of it.
     fn print_rows(&self) -> io::Result<()> {
         let in_use = self.heap.rows;
         let table = &*self.table;

@@ -46,6 +46,7 @@ impl<'a, R: Print> Counter<'a, R> {
         })
     }
 
+    // Written out in each program: a function of the steps and of what carries one out would be no shorter.
     fn run(&mut self, steps: &[Step]) -> io::Result<()> {
         for &step in steps {
             self.carry_out(step)?;

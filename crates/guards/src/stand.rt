@@ -60,6 +60,7 @@ impl<'r, 'a, R: Print> Stand<'r, 'a, R> {
     }
 
     /// Carries the steps out, one after the other.
+    // Written out in each program: a function of the steps and of what carries one out would be no shorter.
     pub fn run(&mut self, steps: &[Step]) -> io::Result<()> {
         for &step in steps {
             self.carry_out(step)?;
@@ -121,6 +122,7 @@ impl<'r, 'a, R: Print> Stand<'r, 'a, R> {
         trace(rt, &mut self.heap, self.table, arena, owner, call)
     }
 
+    // These print what this stand keeps; shared with another program they would have to be handed all of it.
     fn print_rows(&self) -> io::Result<()> {
         let in_use = self.heap.rows;
         let table = &*self.table;

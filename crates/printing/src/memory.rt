@@ -44,6 +44,7 @@ impl fmt::Display for Rows<'_> {
     fn fmt<W: fmt::Write>(&self, f: &mut fmt::Formatter<W>) -> fmt::Result {
         write!(f, "rows {}", self.in_use)?;
         let rows = self.table.len() / 4;
+        // By their numbers: `segments::row` reads row i.
         for i in 0..rows.min(self.in_use as usize) {
             write_row(f, self.table, i)?;
         }

@@ -55,6 +55,7 @@ impl<'a, R: Print> Stand<'a, R> {
     }
 
     /// Carries the steps out, one after the other.
+    // Written out in each program: a function of the steps and of what carries one out would be no shorter.
     pub fn run(&mut self, steps: &[Step]) -> io::Result<()> {
         for &step in steps {
             self.carry_out(step)?;
