@@ -7,6 +7,7 @@ use Rattle.model.specs.Allocation.{clear_of, room, insert}
 use Rattle.model.specs.SegmentMap.{is_free, is_live, gap, map_of, rows_of}
 use Rattle.model.proofs.Choosing.{split, tests, both_left, parts, both_true, every_head, every_tail, every_append, only_append, every_back, every_only, every_picked}
 use Rattle.model.proofs.Ordered.{Live, Ordered, long, clear_before}
+use Rattle.model.proofs.MapRows.{gap_short}
 use Rattle.segments.specs.Rows.{segment_at, segments_in, blocks_in}
 use Rattle.segments.specs.Tiling.{tiles, well_formed, is_map}
 use Rattle.segments.specs.Changes.{replaced, cut}
@@ -173,6 +174,12 @@ map_with c bs b o l t =
       high = high;
       new = ap (λ r. map_of c (insert b r)) e ∙ cut_map c ys zs x b m free l h.low high;
     }
+
+-- A row is cut into three at most.
+pub cut_short : (x b : Segment) → length (cut x b) ≤ 3
+cut_short x b =
+    rw (length-append (gap x.start b.start) (b ∷ gap (b.start + b.length) (x.start + x.length)))
+    (omega (arith, gap_short x.start b.start, gap_short (b.start + b.length) (x.start + x.length)))
 
 -- The rows with the block are those before, less the one cut, and those that it is cut into.
 pub map_with_count : (c : Config) (bs : List Segment) (b : Segment) (i : MapWith c bs b) → rows_of c (insert b bs) + 1 ≡ rows_of c bs + length (cut i.row b)

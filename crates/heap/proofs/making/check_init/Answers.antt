@@ -1,4 +1,4 @@
--- `heap::check_init` meets its contract: each reason in turn.
+-- `heap::making::check_init` meets its contract: each reason in turn.
 -- Assumes nothing.
 use mathlib.Core.Path.{◌≡◌, sym, ◌∙◌}
 use mathlib.Core.Bool.{true}

@@ -1,4 +1,4 @@
--- `heap::are_quotas` meets its contract.
+-- `heap::ranges::are_quotas` meets its contract.
 -- Assumes nothing.
 use Rattle.std.specs.Prelude.{◌≡◌, ℕ, length, nat_le}
 use Rattle.std.specs.List.{list_all}

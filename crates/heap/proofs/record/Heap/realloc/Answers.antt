@@ -1,4 +1,4 @@
--- `heap::realloc` meets its contract: to size 0 it is a free, and else what was decided is carried out in the table and in the arena.
+-- `heap::Heap::realloc` meets its contract: to size 0 it is a free, and else what was decided is carried out in the table and in the arena.
 -- Assumes nothing.
 use mathlib.Core.Path.{refl}
 use Prim.Native.Nat.{◌≤◌}

@@ -1,4 +1,4 @@
--- `heap::seek` meets its contract.
+-- `heap::Heap::seek` meets its contract.
 -- Assumes nothing.
 use mathlib.Core.Path.{refl, ap}
 use Prim.Native.Nat.{◌+◌}

@@ -1,4 +1,4 @@
--- `heap::seek_refit` meets its contract.
+-- `heap::Heap::seek_refit` meets its contract.
 -- Assumes nothing.
 use mathlib.Core.Path.{refl}
 use native.Mathlib.Omega.{arith}
