@@ -1,8 +1,8 @@
 -- What a caller makes of what it found in the rows: the block over a granule, and the map with a block placed where first fit said.
 -- Assumes nothing.
 use Rattle.std.proofs.Common.{◌≡◌, ℕ, ◌+◌, ◌-◌, ◌<◌, ◌≤◌, Bool, true, not, List, ◌∷◌, ◌++◌, length, take, ap, ◌∙◌, subst, arith}
-use Rattle.std.specs.Prelude.{None, Some}
-use Rattle.model.specs.Choose.{choose, every, only}
+use Rattle.std.specs.Prelude.{None, Some, if◌then◌else◌, filter}
+use Rattle.std.specs.List.{list_all}
 use Rattle.model.specs.Quantities.{Config}
 use Rattle.model.specs.Allocation.{has_granule, block_over, insert}
 use Rattle.model.specs.SegmentMap.{is_live, map_of, rows_of}
@@ -25,15 +25,15 @@ abbrev pub lacks : ℕ → Segment → Bool
 lacks i y = not (has_granule i y)
 
 -- The segments of a tiling lack a granule from its end on, and one before its start.
-pub lacks_after : (s e i : ℕ) (xs : List Segment) → tiles s e xs ≡ true → e ≤ i → every (lacks i) xs ≡ true
+pub lacks_after : (s e i : ℕ) (xs : List Segment) → tiles s e xs ≡ true → e ≤ i → list_all (lacks i) xs ≡ true
 lacks_after s e i xs t h = every_weaker (ends_by e) (lacks i) (λ y k. rw (granule_after i y (omega tests))) xs (tiles_end s e xs t)
 
-pub lacks_before : (s e i : ℕ) (xs : List Segment) → tiles s e xs ≡ true → i < s → every (lacks i) xs ≡ true
+pub lacks_before : (s e i : ℕ) (xs : List Segment) → tiles s e xs ≡ true → i < s → list_all (lacks i) xs ≡ true
 lacks_before s e i xs t h = every_weaker (starts_from s) (lacks i) (λ y k. rw (granule_before i y (omega tests))) xs (tiles_from s s e xs (omega arith) t)
 
 -- The block over granule i of the arena is the row of that granule if that is live, and else there is none.
 pub over_row : (c : Config) (n : ℕ) (ws : List ℕ) (i row : ℕ) → is_map c (segments_in n ws) ≡ true → i < c.granules → RowOf n i ws row
-    → block_over i (blocks_in n ws) ≡ choose (is_live (segment_at ws row)) (Some (segment_at ws row)) None
+    → block_over i (blocks_in n ws) ≡ (if is_live (segment_at ws row) then Some (segment_at ws row) else None)
 over_row c n ws i row m h r =
     let xs : List Segment = segments_in n ws in
     let ys : List Segment = take row xs in
@@ -44,16 +44,16 @@ over_row c n ws i row m h r =
     let e : xs ≡ ys ++ (s ∷ zs) = row_parted n ws row r.in_use in
     let p : Parted 0 c.granules ys (s ∷ zs) = part 0 c.granules ys (s ∷ zs) (subst (λ (k : List Segment). tiles 0 c.granules k ≡ true) e t) in
     let f : First p.at c.granules s zs = first p.at c.granules s zs p.back in
-    let before : every (lacks i) (only is_live ys) ≡ true =
+    let before : list_all (lacks i) (filter is_live ys) ≡ true =
     every_only (lacks i) is_live ys (lacks_after 0 p.at i ys p.front (omega arith)) in
-    let after : every (lacks i) (only is_live zs) ≡ true =
+    let after : list_all (lacks i) (filter is_live zs) ≡ true =
     every_only (lacks i) is_live zs (lacks_before (s.start + s.length) c.granules i zs f.rest (omega arith)) in
-    ap (λ (k : List Segment). block_over i (only is_live k)) e
+    ap (λ (k : List Segment). block_over i (filter is_live k)) e
     ∙ rw (only_append is_live ys (s ∷ zs))
-    (first_back (has_granule i) (only is_live ys) (only is_live (s ∷ zs)) before
+    (first_back (has_granule i) (filter is_live ys) (filter is_live (s ∷ zs)) before
     ∙ split (is_live s)
     (λ q. rw (q, in_granule i s g.0 g.1))
-    (λ q. rw q (first_none (has_granule i) (only is_live zs) after)))
+    (λ q. rw q (first_none (has_granule i) (filter is_live zs) after)))
 
 -- The place that first fit found, cut for a block: the map with that block.
 pub found_cut : (c : Config) (n g a : ℕ) (ws : List ℕ) (p : Place) (b : Segment) → is_map c (segments_in n ws) ≡ true → Found c n g a ws (Some p)

@@ -1,7 +1,7 @@
 -- The rows in use read one after the other, and how far those of a tiling reach.
 -- Assumes nothing.
 use Rattle.std.proofs.Common.{◌≡◌, ℕ, zero, suc, ◌+◌, ◌*◌, ◌<◌, ◌≤◌, Bool, true, leb, List, [], ◌∷◌, ◌++◌, length, get_or, take, drop, sym, refl, ap, ◌∙◌, arith, take-append-drop, drop_of_length-le, length-take-le, get_or-drop, eqb-true, le-leb, leb-true}
-use Rattle.model.specs.Choose.{every}
+use Rattle.std.specs.List.{list_all}
 use Rattle.model.proofs.Choosing.{tests, every_head, every_tail}
 use Rattle.segments.specs.Rows.{segment_at, segments_in}
 use Rattle.segments.specs.Tiling.{tiles}
@@ -39,7 +39,7 @@ pub rows_before : (n : ℕ) (ws : List ℕ) (i : ℕ) → i < n → length (take
 rows_before n ws i h = length-take-le i (segments_in n ws) (omega (arith, length_segments n ws))
 
 -- what holds of every segment holds of each row
-pub every_row : (p : Segment → Bool) (n : ℕ) (ws : List ℕ) (i : ℕ) → i < n → every p (segments_in n ws) ≡ true → p (segment_at ws i) ≡ true
+pub every_row : (p : Segment → Bool) (n : ℕ) (ws : List ℕ) (i : ℕ) → i < n → list_all p (segments_in n ws) ≡ true → p (segment_at ws i) ≡ true
 every_row p zero ws i h e = absurd (omega arith)
 every_row p (suc n) ws zero h e = every_head p (segment_at ws 0) (segments_in n (drop 4 ws)) e
 every_row p (suc n) ws (suc i) h e =
@@ -55,7 +55,7 @@ tiles_le s e (x ∷ xs) t =
 abbrev pub ends_by : ℕ → Segment → Bool
 ends_by e x = leb (x.start + x.length) e
 
-pub tiles_end : (s e : ℕ) (xs : List Segment) → tiles s e xs ≡ true → every (ends_by e) xs ≡ true
+pub tiles_end : (s e : ℕ) (xs : List Segment) → tiles s e xs ≡ true → list_all (ends_by e) xs ≡ true
 tiles_end s e [] t = refl
 tiles_end s e (x ∷ xs) t =
     let f : First s e x xs = first s e x xs t in

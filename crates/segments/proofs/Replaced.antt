@@ -1,9 +1,8 @@
 -- A block that may take the place of the one in a row: where it lies, how many rows there are with it, and the row given back and another cut for it.
 -- Assumes nothing.
 use Rattle.std.proofs.Common.{◌≡◌, ℕ, ◌+◌, ◌-◌, ◌*◌, ◌≤◌, true, leb, List, length, sym, ap, ◌∙◌, subst, arith, eqb-true}
-use Rattle.std.specs.Prelude.{Some}
+use Rattle.std.specs.Prelude.{Some, if◌then◌else◌, filter}
 use borrow.Author.Tests.{not-true}
-use Rattle.model.specs.Choose.{choose, only}
 use Rattle.model.specs.Quantities.{Config}
 use Rattle.model.specs.Allocation.{insert, has_granule, block_over}
 use Rattle.model.specs.SegmentMap.{is_free, is_live, map_of, rows_of}
@@ -58,13 +57,13 @@ module _ {c : Config} {n i : ℕ} {b : Segment} {ws : List ℕ} (r : Replaceable
     cut_few = omega (arith, cut_is, around_few c n i ws r.in_use r.map r.old)
 
     -- The new block begins in the run, or else in the row in which it begins now.
-    module _ {at : ℕ} (w : RowOf n b.start ws at) {before t : Segment} (before_is : before ≡ segment_at ws at) (is : t ≡ choose (has_granule b.start run) run before) where
+    module _ {at : ℕ} (w : RowOf n b.start ws at) {before t : Segment} (before_is : before ≡ segment_at ws at) (is : t ≡ (if has_granule b.start run then run else before)) where
       over : block_over b.start (map_of c blocks) ≡ Some t
       over =
-          let m : tiles 0 c.granules (segments_in n ws) ≡ true = both_left _ _ r.map in
+          let m : tiles 0 c.granules (segments_in n ws) ≡ true = both_left _ _ (both_left _ _ r.map) in
           let g : has_granule b.start (segment_at ws at) ≡ true = w.has c.granules m (omega (arith, inside, long c b live_block)) in
-          let e : t ≡ choose (has_granule b.start (run_around n i ws)) (run_around n i ws) (segment_at ws at) =
-          is ∙ (λ j. choose (has_granule b.start (run_is j)) (run_is j) (before_is j)) in
+          let e : t ≡ (if has_granule b.start (run_around n i ws) then run_around n i ws else segment_at ws at) =
+          is ∙ (λ j. if has_granule b.start (run_is j) then run_is j else before_is j) in
           over_around c n i ws r.in_use r.map r.old b.start
           ∙ split (has_granule b.start (run_around n i ws))
           (λ q. rw q (ap Some (sym (e ∙ rw q))))
@@ -89,7 +88,7 @@ module _ {c : Config} {n i : ℕ} {b : Segment} {ws : List ℕ} (r : Replaceable
     freed_count = sym (length_segments m part) ∙ ap length freed_is
 
     freed_blocks : blocks_in m part ≡ blocks
-    freed_blocks = ap (only is_live) freed_is ∙ live_map c 0 blocks (ordered c n i ws r.in_use r.map r.old)
+    freed_blocks = ap (filter is_live) freed_is ∙ live_map c 0 blocks (ordered c n i ws r.in_use r.map r.old)
 
     -- The rows left are some, and no more than before.
     pub freed_some : (1 ≤ m) × (m ≤ n)
@@ -105,7 +104,7 @@ module _ {c : Config} {n i : ℕ} {b : Segment} {ws : List ℕ} (r : Replaceable
 
       over_target : block_over b.start (map_of c blocks) ≡ Some target_row
       over_target =
-          let t : tiles 0 c.granules (segments_in m part) ≡ true = both_left _ _ freed_map in
+          let t : tiles 0 c.granules (segments_in m part) ≡ true = both_left _ _ (both_left _ _ freed_map) in
           ap (block_over b.start) (sym freed_is)
           ∙ segment_over c m part b.start at freed_map a.in_use (a.has c.granules t (omega (arith, inside, long c b live_block)))
 

@@ -1,8 +1,7 @@
 -- What is looked for in the rows: the row of a granule, the place that first fit names, and the start of a block with another length.
 -- Assumes nothing.
-use Rattle.std.specs.Prelude.{◌≡◌, ℕ, ◌+◌, ◌<◌, ◌≤◌, true, List, Option, Some, IfSome}
+use Rattle.std.specs.Prelude.{◌≡◌, ℕ, ◌+◌, ◌<◌, ◌≤◌, true, if◌then◌else◌, List, Option, Some, IfSome}
 use Rattle.std.specs.Option.{option_map}
-use Rattle.model.specs.Choose.{choose}
 use Rattle.model.specs.Quantities.{Config}
 use Rattle.model.specs.Allocation.{room, lowest_start, offset, has_granule, without}
 use Rattle.segments.specs.Rows.{segment_at, segments_in, blocks_in}
@@ -34,4 +33,4 @@ others n i ws = without (offset (segment_at ws i)) (blocks_in n ws)
 -- The block in row i of n with g granules starts where it does if there is room beside the other blocks, else at the lowest start clear of all, if there is one.
 abbrev pub refit_start : Config → ℕ → ℕ → ℕ → List ℕ → Option ℕ
 refit_start c n i g ws =
-    choose (room c (others n i ws) g (segment_at ws i).start) (Some (segment_at ws i).start) (lowest_start c (blocks_in n ws) g 16)
+    if room c (others n i ws) g (segment_at ws i).start then Some (segment_at ws i).start else lowest_start c (blocks_in n ws) g 16

@@ -1,7 +1,6 @@
 -- What the functions within the crate do, step by step: a caller needs none of it.
 -- Assumes nothing.
-use Rattle.std.specs.Prelude.{ℕ, ◌+◌, ◌-◌, ◌%◌, max, Bool, true, false, not, List, replicate, ◌==◌, nat_le, nat_lt, slice_index, slice_set}
-use Rattle.model.specs.Choose.{choose, both}
+use Rattle.std.specs.Prelude.{ℕ, ◌+◌, ◌-◌, ◌%◌, max, Bool, true, false, not, if◌then◌else◌, ◌&&◌, List, replicate, ◌==◌, nat_le, nat_lt, slice_index, slice_set}
 use Rattle.model.specs.Quantities.{Config}
 use Rattle.model.specs.SegmentMap.{is_free, free_run}
 use Rattle.segments.specs.Rows.{segment_at}
@@ -20,11 +19,11 @@ none_counted = record { end = 0; after_free = false; used = 0; longest = 0; bloc
 -- A row may follow those counted: it begins where they end, is at least 1 long, ends in the arena, is well formed, and is not the second free one of two that touch.
 unfoldable pub follows_of : Config → Census → Segment → Bool
 follows_of c k x =
-    both (x.start == k.end)
-    (both (nat_le 1 x.length)
-    (both (nat_le x.length (c.granules - k.end))
-    (both (well_formed c x)
-    (not (both k.after_free (is_free x))))))
+    x.start == k.end
+    && nat_le 1 x.length
+    && nat_le x.length (c.granules - k.end)
+    && well_formed c x
+    && not (k.after_free && is_free x)
 
 -- The count with a free row of so many granules.
 abbrev pub free_of : Census → ℕ → Census
@@ -52,14 +51,14 @@ live_of k o n =
 
 -- The free run that row i leaves when it is released begins at the row before it if that is free, else at row i.
 abbrev pub run_from : ℕ → List ℕ → ℕ
-run_from i ws = choose (both (nat_lt 0 i) (is_free (segment_at ws (i - 1)))) (segment_at ws (i - 1)).start (segment_at ws i).start
+run_from i ws = if nat_lt 0 i && is_free (segment_at ws (i - 1)) then (segment_at ws (i - 1)).start else (segment_at ws i).start
 
 -- It ends with the row after it if that is one of the n and free, else with row i.
 abbrev pub run_to : ℕ → ℕ → List ℕ → ℕ
 run_to n i ws =
-    choose (both (nat_lt (i + 1) n) (is_free (segment_at ws (i + 1))))
-    ((segment_at ws (i + 1)).start + (segment_at ws (i + 1)).length)
-    ((segment_at ws i).start + (segment_at ws i).length)
+    if nat_lt (i + 1) n && is_free (segment_at ws (i + 1))
+    then (segment_at ws (i + 1)).start + (segment_at ws (i + 1)).length
+    else (segment_at ws i).start + (segment_at ws i).length
 
 -- It is one free row.
 abbrev pub run_around : ℕ → ℕ → List ℕ → Segment
