@@ -5,6 +5,8 @@
 //! promise would speak of any call. The record, the table and the arena are lent each by itself, as a rule of the project.
 #![tactic(auto)]
 
+mod promises;
+
 ghost use Rattle.std.specs.Prelude.{◌≡◌};
 ghost use Rattle.model.specs.Numbers.{value_numbered, resized_numbered, size_numbered, totals_numbered, holding_numbered};
 ghost use Rattle.heap.specs.Stored.{handed};

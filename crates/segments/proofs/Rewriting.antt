@@ -17,18 +17,22 @@ module _ (n : ℕ) (ws : List ℕ) (fits : 4 * n ≤ length ws) (i : ℕ) where
 
   -- A gap inserted, or none.
   pub gap_more : (from to : ℕ) (run : Segment) (after : List ℕ) → i ≤ n → from < to → run ≡ free_run from (to - from) → after ≡ with_rows n ws (inserted i run segs)
-      → Rewritten n ws (replaced i 0 (gap from to) segs) (n + 1) after
+      → (n + 1 ≡ n + length (gap from to)) × Rewritten n ws (replaced i 0 (gap from to) segs) (n + 1) after
   gap_more from to run after h k r e =
-      let g : run ∷ [] ≡ gap from to = ap (λ (x : Segment). x ∷ []) r ∙ sym (gap_some from to k) in
-      record {
-        rows = sym (ap (λ (q : List Segment). length (replaced i 0 q segs)) (sym g) ∙ replaced_count n ws fits i 0 (run ∷ []) (omega arith) ∙ omega arith);
-        words = e ∙ ap (λ (q : List Segment). with_rows n ws (replaced i 0 q segs)) g;
-      }
+      let g : run ∷ [] ≡ gap from to = ap (λ (x : Segment). x ∷ []) r ∙ sym (gap_some from to k) in (
+        ap (λ (q : List Segment). n + length q) g,
+        record {
+          rows = sym (ap (λ (q : List Segment). length (replaced i 0 q segs)) (sym g) ∙ replaced_count n ws fits i 0 (run ∷ []) (omega arith) ∙ omega arith);
+          words = e ∙ ap (λ (q : List Segment). with_rows n ws (replaced i 0 q segs)) g;
+        },
+      )
 
-  pub gap_less : (from to : ℕ) → to ≤ from → Rewritten n ws (replaced i 0 (gap from to) segs) n ws
+  pub gap_less : (from to : ℕ) → to ≤ from → (n ≡ n + length (gap from to)) × Rewritten n ws (replaced i 0 (gap from to) segs) n ws
   gap_less from to k =
-      let g : segs ≡ replaced i 0 (gap from to) segs = sym (ap (λ (q : List Segment). replaced i 0 q segs) (gap_none from to k) ∙ replaced_none i segs) in
-      record { rows = sym (ap length (sym g) ∙ length_segments n ws); words = sym (rows_same n ws fits i) ∙ ap (with_rows n ws) g }
+      let g : segs ≡ replaced i 0 (gap from to) segs = sym (ap (λ (q : List Segment). replaced i 0 q segs) (gap_none from to k) ∙ replaced_none i segs) in (
+        omega (arith, ap length (gap_none from to k)),
+        record { rows = sym (ap length (sym g) ∙ length_segments n ws); words = sym (rows_same n ws fits i) ∙ ap (with_rows n ws) g },
+      )
 
 -- The rows of a table that was rewritten are those written.
 pub rows_read : {n m : ℕ} {ws after : List ℕ} {xs : List Segment} → Rewritten n ws xs m after → segments_in m after ≡ xs

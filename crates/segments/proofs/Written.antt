@@ -153,6 +153,12 @@ module _ (n a b : ℕ) (h : a ≤ max n b) where
 pub then_rows : (n : ℕ) (ws : List ℕ) (xs ys : List Segment) → length xs ≤ max n (length ys) → with_rows (length xs) (with_rows n ws xs) ys ≡ with_rows n ws ys
 then_rows n ws xs ys h = ap (λ (q : List ℕ). words_of ys ++ q) (tail_left n (length xs) (length ys) h (words_of xs) ws (length_words xs))
 
+-- A row before zeros.
+pub row_zeros : (n : ℕ) (x : Segment) → with_row (replicate n 0) 0 x ≡ words_of (x ∷ []) ++ replicate (n - 4) 0
+row_zeros n x =
+    ap (λ (q : List ℕ). words_of (x ∷ []) ++ q)
+    (ap (drop 4) (sym (append-nil (replicate n 0))) ∙ drop_zeros 4 n [] ∙ rw (drop_of_length-le {A = ℕ} [] {i = 4 - n} (omega arith)) (append-nil (replicate (n - 4) 0)))
+
 -- the table of some segments, as rows written over none
 table_is : (capacity : ℕ) (xs : List Segment) → table_of capacity xs ≡ with_rows capacity [] xs
 table_is capacity xs =
