@@ -4,37 +4,11 @@ use Rattle.std.proofs.Common.{◌≡◌, ℕ, List, [], ◌∷◌, ◌++◌, tak
 use Rattle.script.specs.Text.{ended, unended}
 use Rattle.script.specs.Machine.{Machine, machine, started}
 use Rattle.script.specs.Session.{output, joined, answers_to, after_lines, most_held, held, pieces_with}
-use Rattle.script.specs.Promises.{fed_pieces, fed_text}
 use Rattle.script.specs.Performed.{Feeds}
-use Rattle.script.proofs.Lists.{front_text}
 use Rattle.script.proofs.Parts.{in_parts, in_parts_lem}
+use Rattle.script.proofs.Performed.{fed_goes}
 use Rattle.script.specs.declared.session.Session.{Session}
 use Rattle.heapscript.specs.Steps.{Begins}
-
--- A part that is fed: its answers, the machine afterwards, and what is held.
-module _ (s : Session) (words bytes part : List ℕ) (f : Feeds s words bytes part) where
-  same_pieces : fed_pieces s words bytes f.input f.room ≡ pieces_with (held s) part
-  same_pieces = rw (f.takes, f.done.taken)
-
-  pub fed_answers : take f.out.written f.room_after ≡ answers_to (machine s.script words bytes) (ended (pieces_with (held s) part))
-  fed_answers =
-      front_text (fed_text s words bytes f.input f.room) f.room f.room_after f.out.written f.done.written f.done.buffer
-      ∙ ap (λ (ls : List (List ℕ)). answers_to (machine s.script words bytes) (ended ls)) same_pieces
-
-  pub fed_leaves : machine f.s_after.script f.words_after f.bytes_after ≡ after_lines (machine s.script words bytes) (ended (pieces_with (held s) part))
-  fed_leaves =
-      f.done.leaves
-      ∙ ap (λ (ls : List (List ℕ)). after_lines (machine s.script words bytes) (ended ls)) same_pieces
-
-  pub fed_holds : held f.s_after ≡ take most_held (unended (pieces_with (held s) part))
-  fed_holds =
-      front_text (take most_held (unended (fed_pieces s words bytes f.input f.room))) s.held.line f.s_after.held.line f.s_after.held.count f.done.count f.done.line
-      ∙ ap (λ (ls : List (List ℕ)). take most_held (unended ls)) same_pieces
-
-  -- What is written for the part and others is what was put for it, and then what is written for the others.
-  pub fed_goes : (parts : List (List ℕ))
-      → in_parts (machine s.script words bytes) (held s) (part ∷ parts) ≡ take f.out.written f.room_after ++ in_parts (machine f.s_after.script f.words_after f.bytes_after) (held f.s_after) parts
-  fed_goes parts = rw (fed_answers, fed_leaves, fed_holds)
 
 -- With whatever comes after the input so far, the output is the text so far, and then what is written for the rest.
 pub record Going (s : Session) (words bytes input text : List ℕ) (s' : Session) (words' bytes' : List ℕ) : Type 0 where

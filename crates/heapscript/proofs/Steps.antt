@@ -9,12 +9,12 @@ use Rattle.script.specs.Machine.{started}
 use Rattle.script.specs.Session.{output, joined}
 use Rattle.script.specs.Promises.{FeedDone}
 use Rattle.script.specs.Performed.{Feeds, Finishes}
-use Rattle.script.proofs.Performed.{no_line_lost}
+use Rattle.script.proofs.Performed.{fed_answers, no_line_lost}
 use Rattle.script.specs.declared.session.Session.{Session}
 use Rattle.script.specs.declared.session.Fed.{Fed}
 use Rattle.heapscript.specs.Steps.{Begins, AnswersPart, StopsPart, FeedsOn, AnswersInput, StopsInput, WritesEnd, StopsEnd}
 use Rattle.heapscript.specs.Whole.{AnswersScript, StopsScript}
-use Rattle.heapscript.proofs.Going.{fed_answers, Going, Going-none, Going-more, Going-stops}
+use Rattle.heapscript.proofs.Going.{Going, Going-none, Going-more, Going-stops}
 
 -- A fact holds where there is an error, if it does anyhow.
 pub OnErr-anyhow : {A E P : Type 0} (r : Result A E) → P → OnErr r P

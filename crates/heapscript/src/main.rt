@@ -30,6 +30,7 @@ fn write_out<W: Write>(writer: &mut W, bytes: &[u8]) -> io::Result<()>
     ensures ok { OnOk result (Appends (W.contents writer.old) (W.contents writer.new) bytes.now) }
     ensures err { OnErr result ((n : ℕ) × Appends (W.contents writer.old) (W.contents writer.new) (take n bytes.now)) }
 {
+    // std's `write_all` says nothing of what was written where it fails.
     let mut rest = bytes;
     while !rest.is_empty() {
         let n = writer.write(rest)?;

@@ -9,7 +9,7 @@ use native.Mathlib.Nat.{pow-suc}
 use native.Mathlib.Numerals.{add-one}
 use native.Mathlib.Omega.{arith}
 use lib.Dec.{ltb}
-use lib.ListN.{length, take, drop, get_or, set, length-append, take-append-drop}
+use lib.ListN.{length, take, drop, get_or, length-append, take-append-drop}
 use lib.Seq.{length-sets, take-suc, drop-cons}
 use borrow.Author.Tests.{lt-ltb, le-ltb}
 use Rattle.model.specs.Choose.{total}
@@ -45,10 +45,6 @@ put_length {text} {buffer} {after} {at} {p} f = ap length f.bytes ∙ length-set
 -- Where nothing is put, the place and the buffer stay.
 pub put_none : {buffer : List ℕ} {at p : ℕ} → p ≡ at → Put [] buffer at p buffer
 put_none {buffer} {at} {p} e = record { end = omega arith; bytes = refl }
-
--- One byte is put by a store.
-pub put_byte : {buffer : List ℕ} {at b p : ℕ} → p ≡ at + 1 → Put (b ∷ []) buffer at p (set buffer at b)
-put_byte e = record { end = e; bytes = refl }
 
 -- Two texts that are put one after the other are one text.
 pub put_append : {a b buffer mid after : List ℕ} {at p q : ℕ} → Put a buffer at p mid → Put b mid p q after → Put (a ++ b) buffer at q after

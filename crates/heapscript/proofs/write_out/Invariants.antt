@@ -1,6 +1,6 @@
 -- What stands before the rest is written.
 -- Assumes nothing.
-use Rattle.std.proofs.Common.{ℕ, List, length}
+use Rattle.std.proofs.Common.{length}
 use Rattle.heapscript.proofs.Steps.{Written}
 use Rattle.heapscript.proofs.write_out.Given as goal
 

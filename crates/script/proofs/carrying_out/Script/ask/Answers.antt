@@ -7,8 +7,3 @@ pub returns-clause-answer : goal.returns-clause-answer
 returns-clause-answer c =
     let d = c.alloc_aligned-out.ensures in
     (ask_done c.args.self.now _ _ _ _ c.min-n.ensures c.min-k.ensures _ _ _ _ _ _ (record { answer = d.answer; numbered = d.numbered; heap = d.heap; table = d.table; arena = d.arena })).0
-
-pub returns-clause-leaves : goal.returns-clause-leaves
-returns-clause-leaves c =
-    let d = c.alloc_aligned-out.ensures in
-    (ask_done c.args.self.now _ _ _ _ c.min-n.ensures c.min-k.ensures _ _ _ _ _ _ (record { answer = d.answer; numbered = d.numbered; heap = d.heap; table = d.table; arena = d.arena })).1

@@ -9,4 +9,4 @@ use Rattle.script.proofs.session.Session.answer_held.Goals as goal
 pub returns-clause-put : goal.returns-clause-put
 returns-clause-put c =
     let whole : length c.args.self.now.held.line ≡ 81 = omega arith in
-    put_same (one_answer c.args.self.now _ _ (omega (arith, c.if-self-eq0.false)) whole (c.read_line-command.ensures ∙ ap read_line c.as_slice.ensures)) c.answer.ensures.put
+    put_same (one_answer c.args.self.now _ _ (omega arith) whole (c.read_line-command.ensures ∙ ap read_line c.as_slice.ensures)) c.answer.ensures.put

@@ -7,10 +7,10 @@ use Rattle.script.proofs.session.Session.finish.Goals as goal
 
 pub put_closing-requires : goal.put_closing-requires
 put_closing-requires c =
-    let a = c.answer_held.ensures in omega (arith, c.if-out-lt25664.false, a.most, put_length a.put)
+    let a = c.answer_held.ensures in omega (arith, a.most, put_length a.put)
 
 pub returns : goal.returns
 returns c =
     let a = c.answer_held in
     let p = c.put_closing.ensures in
-    finish_done _ _ _ _ (omega (arith, c.if-out-lt25664.false)) a.new.self _ _ a.ensures.leaves _ _ a.ensures.put _ _ (p.put a.new.arena) (omega (arith, a.ensures.most, p.most)) _ (search rules)
+    finish_done _ _ _ _ (omega arith) a.new.self _ _ a.ensures.leaves _ _ a.ensures.put _ _ (p.put a.new.arena) (omega (arith, a.ensures.most, p.most)) _ (search rules)
