@@ -11,6 +11,9 @@ use script::{Fed, Session};
 use std::io;
 use std::io::{Read, Write};
 
+// The session, the table and the arena are handed on one beside another, as the heap's rule of lent slices has it, and so are a reader and a writer: a struct
+// of them would be taken apart at each call.
+
 /// Answers the lines that end in a part of the input, all of which is taken.
 fn answer_whole(
     session: &mut Session,
@@ -20,7 +23,8 @@ fn answer_whole(
     out: &mut [u8],
 ) -> Fed
     requires { 14 * length input.now ≤ length out.old }
-    ensures { (result.taken ≡ length input.now) × FeedDone session.old table.old arena.old input.now out.old result session.new table.new arena.new out.new }
+    ensures taken { result.taken ≡ length input.now }
+    ensures fed { FeedDone session.old table.old arena.old input.now out.old result session.new table.new arena.new out.new }
 {
     session.feed(table, arena, input, out)
 }

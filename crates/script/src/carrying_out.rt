@@ -11,6 +11,7 @@ use heap::{Heap, is_owner};
 use model::{InitRefusal, Plan, Refusal};
 
 /// What a script keeps beside the lent table and arena: the quotas for the next make, and the heap's record, all zero until a make is granted.
+// The record is no `Option`: an ask before a make is a call on a record that is no heap, and gets its 1 (`started`). The quotas are two arrays as in `Plan`.
 #[derive(Clone, Copy, Debug, PartialEq, Eq)]
 pub struct Script {
     pub granule_quotas: [u32; 8],
@@ -18,7 +19,8 @@ pub struct Script {
     pub heap: Heap,
 }
 
-/// The length of the part that a make hands on: none if fewer are lent.
+/// The length of the part that a make hands on: 0 if fewer are lent.
+// A length and no `Option`: a make with nothing lent is refused by its own reason, 11 or 12 (`part_of`).
 fn part(wanted: usize, lent: usize) -> usize
     ensures part { result ≡ part_of wanted lent }
     ensures within { result ≤ lent }
@@ -26,7 +28,7 @@ fn part(wanted: usize, lent: usize) -> usize
     if lent < wanted { 0 } else { wanted }
 }
 
-// The table and the arena stay two lent slices beside the record: the heap's rules name that form.
+// The table and the arena stay two lent slices beside the record, here and in a session: a rule of the project.
 impl Script {
     /// A script before any line.
     pub(crate) fn start() -> Script
@@ -84,6 +86,7 @@ impl Script {
         Ok(bytes)
     }
 
+    // Not one function with `back`: what they share is the two parts that are lent, and a closure for the call would be longer.
     /// `ask O N A`: an allocation. Refused with 1 to 8, in this order; a record with guards, which no make leaves, has its 11 after 1.
     fn ask(
         &mut self,
@@ -138,6 +141,7 @@ impl Script {
         let Some(command) = command else {
             return Err(Why::Unreadable);
         };
+        // A `match` and no closures: a command is data that was read.
         match command {
             Command::Limit {
                 owner,

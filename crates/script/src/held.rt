@@ -7,6 +7,7 @@ ghost use Rattle.script.specs.Steps.{held_with};
 use crate::command::{Command, read_line};
 
 /// What has come of a line: the first `count` bytes of `line`, 81 of a line that is too long.
+// Fixed memory, and any count may come in (`FeedDone`): no Vec, no invariant.
 #[derive(Clone, Copy, Debug, PartialEq, Eq)]
 pub struct Held {
     pub line: [u8; 81],

@@ -13,6 +13,8 @@ use itoa::Buffer;
 use segments::row;
 
 /// A lent buffer, and the place after what is written in it.
+// The buffer is lent, so its room is asked of each line by a `requires`; std's `Display` would promise no exact bytes of it. A number is cast by `as`: the
+// lemmas on a line's numbers do not see through `u64::from`.
 #[derive(Drop)]
 pub(crate) struct Out<'a> {
     pub(crate) bytes: &'a mut [u8],

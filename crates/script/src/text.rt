@@ -32,7 +32,7 @@ pub(crate) fn number_in(field: &[u8]) -> Option<u32>
     if field.is_empty() || 10 < field.len() {
         return None;
     }
-    // std's `parse` would also read a sign, and more than ten digits if the first are zeros.
+    // std's `parse` would also read a sign, and more than ten digits if the first are zeros. The value fits: it was compared.
     let mut value: u64 = 0;
     for &b in field {
         if !b.is_ascii_digit() {

@@ -12,7 +12,7 @@ returns-clause-ok g c =
       size = grind (arith, common_steps);
       read = c.in_ok-n.ensures.bytes.0;
       end = λ none. c.in_ok-n.ensures.bytes.1 none (omega arith);
-      fed = Feeds-whole _ _ _ _ _ _ _ _ _ _ c.answer_whole-fed.ensures;
+      fed = Feeds-whole _ _ _ _ _ _ _ _ _ _ (c.answer_whole-fed.ensures.taken, c.answer_whole-fed.ensures.fed);
       session = refl;
       table = refl;
       arena = refl;
@@ -26,5 +26,5 @@ returns-in_err-n-clause-err g c =
 pub returns-in_err-write_out-clause-err : goal.returns-in_err-write_out-clause-err
 returns-in_err-write_out-clause-err g c =
     OnErr-anyhow c.from_residual-in_err-write_out.result
-    (StopsPart-write _ _ _ _ _ _ _ (take c.in_ok-n.n c.read.new.buf) (Feeds-whole _ _ _ _ _ _ _ _ _ _ c.answer_whole-fed.ensures) c.in_err-write_out.ensures.err.0 c.in_ok-n.ensures.bytes.0
+    (StopsPart-write _ _ _ _ _ _ _ (take c.in_ok-n.n c.read.new.buf) (Feeds-whole _ _ _ _ _ _ _ _ _ _ (c.answer_whole-fed.ensures.taken, c.answer_whole-fed.ensures.fed)) c.in_err-write_out.ensures.err.0 c.in_ok-n.ensures.bytes.0
     c.in_err-write_out.ensures.err.1)
