@@ -4,6 +4,7 @@ use Rattle.std.specs.Prelude.{◌≡◌, Bool, true, false, Ok}
 use mir.Val.{bool_byte}
 use Rattle.std.proofs.Common.{rules, refl, sym, ap, ◌∙◌}
 use native.Mathlib.Omega.{arith}
+use Rattle.model.specs.Quantities.{Config, in_range}
 use Rattle.model.specs.Choose.{choose}
 use Rattle.model.specs.Rules as model
 use Rattle.model.specs.Numbers.{made_numbered}
