@@ -9,7 +9,7 @@ use model::Segment;
 use std::marker::Model;
 
 /// The first `count` rows of a table, four words each.
-#[derive(Drop)]
+#[derive(Clone, Debug, Drop)]
 pub struct RowList<'a> {
     words: &'a [u32],
     count: usize,
