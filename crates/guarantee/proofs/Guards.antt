@@ -3,12 +3,11 @@
 use mathlib.Core.Path.{◌≡◌, refl, sym, ap, ◌∙◌, subst}
 use mathlib.Core.Bool.{Bool, true, false}
 use mathlib.Core.List.{List, [], ◌∷◌}
-use Rattle.std.specs.Prelude.{Some, Ok, Err}
+use Rattle.std.specs.Prelude.{Some, is_none, Ok, Err, ◌&&◌, filter, find}
 use Prim.Native.Nat.{ℕ, ◌+◌, ◌≤◌, ◌<◌}
 use native.Mathlib.Omega.{arith}
 use lib.Dec.{leb, ltb, eqb}
 use borrow.Author.Tests.{leb-true, le-leb, lt-ltb, ltb-true, eq-eqb, ne_eqb}
-use Rattle.model.specs.Choose.{both, only, first_of, is_none}
 use Rattle.model.specs.Quantities.{Config, in_range}
 use Rattle.model.specs.Allocation.{State, fresh, offset, block_at, owned_by}
 use Rattle.model.specs.Arena.{has_recorded_length, guard_offset, guard_bytes, in_guard}
@@ -43,7 +42,7 @@ use Rattle.model.specs.declared.Resized.TheVariants as resized
 
 -- the block at x, if it is o's and a test holds of it, is among o's blocks one of which the test holds
 owned_first : (p : Segment → Bool) (o x : ℕ) (bs : List Segment) (b : Segment) → block_at x bs ≡ Some b → b.owner ≡ o → p b ≡ true
-    → is_none (first_of p (owned_by o bs)) ≡ false
+    → is_none (find p (owned_by o bs)) ≡ false
 owned_first p o x [] b e mine t = let z : ◌≡◌ {A = ℕ} 0 1 = cc in absurd (omega arith)
 owned_first p o x (a ∷ bs) b e mine t =
     split (eqb (offset a) x)
@@ -52,19 +51,19 @@ owned_first p o x (a ∷ bs) b e mine t =
     let u : p a ≡ true = subst (λ (d : Segment). p d ≡ true) (sym z) t in
     let w : a.owner ≡ o = ap (λ (d : Segment). d.owner) z ∙ mine in
     rw (eq-eqb a.owner o w, u))
-    (λ q. let r : is_none (first_of p (owned_by o bs)) ≡ false = owned_first p o x bs b (rw q at e) mine t in
+    (λ q. let r : is_none (find p (owned_by o bs)) ≡ false = owned_first p o x bs b (rw q at e) mine t in
     split (eqb a.owner o) (λ w. rw w (split (p a) (λ u. rw u) (λ u. rw u r))) (λ w. rw w r))
 
 -- the first of those picked is the first of which both tests hold
-first_only : (p q : Segment → Bool) (bs : List Segment) (b : Segment) → first_of q (only p bs) ≡ Some b → first_of (λ (d : Segment). both (p d) (q d)) bs ≡ Some b
+first_only : (p q : Segment → Bool) (bs : List Segment) (b : Segment) → find q (filter p bs) ≡ Some b → find (λ (d : Segment). p d && q d) bs ≡ Some b
 first_only p q [] b e = e
 first_only p q (a ∷ bs) b e =
     split (p a)
-    (λ u. let e' : first_of q (a ∷ only p bs) ≡ Some b = rw u at e in split (q a) (λ w. rw (u, w) (rw w at e')) (λ w. rw (u, w) (first_only p q bs b (rw w at e'))))
+    (λ u. let e' : find q (a ∷ filter p bs) ≡ Some b = rw u at e in split (q a) (λ w. rw (u, w) (rw w at e')) (λ w. rw (u, w) (first_only p q bs b (rw w at e'))))
     (λ u. rw u (first_only p q bs b (rw u at e)))
 
 -- a live block is at its offset
-first_at : (c : Config) (p : Segment → Bool) (s : ℕ) (bs : List Segment) (b : Segment) → Ordered c s bs → first_of p bs ≡ Some b → block_at (offset b) bs ≡ Some b
+first_at : (c : Config) (p : Segment → Bool) (s : ℕ) (bs : List Segment) (b : Segment) → Ordered c s bs → find p bs ≡ Some b → block_at (offset b) bs ≡ Some b
 first_at c p s [] b o e = let z : ◌≡◌ {A = ℕ} 0 1 = cc in absurd (omega arith)
 first_at c p s (a ∷ bs) b o e =
     split (p a)
@@ -86,9 +85,9 @@ module _ (c : Config) where
   -- A byte in the guard of a live block is none that a live block was requested with.
   pub guard_not_requested : (o : ℕ) (h : State) → Kept c h → (i : ℕ) → in_guard_of c o h i ≡ true → not_requested h i ≡ true
   guard_not_requested o h k i e =
-      split_option (first_of (is_requested i) h.blocks)
+      split_option (find (is_requested i) h.blocks)
       (λ q. rw q)
-      (λ b q. split_option (first_of (in_guard c i) (owned_by o h.blocks))
+      (λ b q. split_option (find (in_guard c i) (owned_by o h.blocks))
       (λ p. absurd (clash false (rw p at e) refl))
       (λ d p. let g : in_guard c i d ≡ true = first_some (in_guard c i) (owned_by o h.blocks) d p in
       let r : is_requested i b ≡ true = first_some (is_requested i) h.blocks b q in
@@ -96,7 +95,7 @@ module _ (c : Config) where
       let below : ltb i (offset b + b.requested) ≡ true = search parts in
       absurd (requested_apart c h k (offset b) (offset d) b d
       (first_at c (is_requested i) 0 h.blocks b k.ordered q)
-      (first_at c (λ (a : Segment). both (eqb a.owner o) (in_guard c i a)) 0 h.blocks d k.ordered (first_only (λ (a : Segment). eqb a.owner o) (in_guard c i) h.blocks d p))
+      (first_at c (λ (a : Segment). eqb a.owner o && in_guard c i a) 0 h.blocks d k.ordered (first_only (λ (a : Segment). eqb a.owner o) (in_guard c i) h.blocks d p))
       i (leb-true (offset b) i from) (ltb-true i (offset b + b.requested) below) (in_guard_lem i d g).0 (in_guard_lem i d g).1)))
 
   -- Bytes that nobody writes to are a part of more such bytes.

@@ -1,12 +1,11 @@
 -- What holds of the live blocks after every list of calls, for a reader: no two tasks are lent the same bytes.
 -- Assumes nothing.
-use Rattle.std.specs.Prelude.{Ok}
+use Rattle.std.specs.Prelude.{Ok, filter}
 use mathlib.Core.Path.{◌≡◌}
 use mathlib.Core.Bool.{true}
 use mathlib.Core.List.{List, Memᴰ}
 use Prim.Native.Nat.{ℕ, ◌≤◌}
 use lib.ListN.{length}
-use Rattle.model.specs.Choose.{only}
 use Rattle.model.specs.Rules.{init_config}
 use Rattle.model.proofs.Ordered.{Ordered}
 use Rattle.model.proofs.Disjoint as disjoint
@@ -28,7 +27,7 @@ module _ (arena words : List ℕ) (p : Plan) (done : init arena words p ≡ Ok t
   ordered = (kept_after (init_config arena words p) _ ks (fresh_kept (init_config arena words p) (init_range arena words p done))).ordered
 
   -- Each byte of the arena lies in at most one live block.
-  pub in_one_block : (x : ℕ) → length (only (has_byte x) live) ≤ 1
+  pub in_one_block : (x : ℕ) → length (filter (has_byte x) live) ≤ 1
   in_one_block x = disjoint.in_one_block (init_config arena words p) x 0 live ordered
 
   -- Two live blocks that share a byte are one block, of one task.

@@ -4,12 +4,12 @@ use mathlib.Core.Path.{◌≡◌, refl, ap, sym, ◌∙◌, subst}
 use mathlib.Core.Bool.{Bool, true, false, not}
 use mathlib.Core.List.{List, [], ◌∷◌}
 use Rattle.std.specs.Prelude.{None, Some, Result, Ok, Err}
+use Rattle.std.specs.List.{list_all}
 use Prim.Native.Nat.{ℕ, ◌+◌, ◌*◌, ◌/◌, ◌%◌, ◌≤◌, ◌<◌}
 use native.Mathlib.Omega.{arith}
 use lib.Dec.{eqb}
 use lib.ListN.{replicate}
 use borrow.Author.Tests.{not-true}
-use Rattle.model.specs.Choose.{every}
 use Rattle.model.specs.Quantities.{is_owner, Config, in_range}
 use Rattle.model.specs.Allocation.{State, fresh, block, block_at, bytes, has_granule, block_over, without}
 use Rattle.model.specs.Arena.{has_recorded_length}
@@ -70,7 +70,7 @@ module _ (c : Config) (i : ℕ) where
 
   -- In a history nothing is lent over granule i.
   abbrev pub nothing_lent : List Entry → Bool
-  nothing_lent es = every (λ (e : Entry). not (is_lent e.0 e.1)) es
+  nothing_lent es = list_all (λ (e : Entry). not (is_lent e.0 e.1)) es
 
   -- a call that is not lent a granule that no live block has leaves it so
   alloc_stays : (h : State) (arena : List ℕ) (o n a : ℕ) → lent_by o n (rules.alloc true c h arena o n a) ≡ false → block_over i h.blocks ≡ None

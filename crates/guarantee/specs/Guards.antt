@@ -1,7 +1,6 @@
 -- What a task may lean on of guards, after every list of calls: one that nobody writes to is never found broken, and one that is broken is told.
 -- Assumes nothing.
-use Rattle.std.specs.Prelude.{ℕ, ◌+◌, ◌≡◌, Bool, true, not, List, [], ◌∷◌, leb, ltb, get_or, Some, Ok}
-use Rattle.model.specs.Choose.{choose, both, first_of, is_none}
+use Rattle.std.specs.Prelude.{ℕ, ◌+◌, ◌≡◌, Bool, true, not, if◌then◌else◌, ◌&&◌, List, [], ◌∷◌, find, leb, ltb, get_or, Some, is_none, Ok}
 use Rattle.model.specs.Quantities.{Config}
 use Rattle.model.specs.Allocation.{State, fresh, offset, block_at, owned_by}
 use Rattle.model.specs.Arena.{has_recorded_length, in_guard}
@@ -16,7 +15,7 @@ use Rattle.model.specs.declared.Plan.{Plan}
 
 -- These bytes, if a call is handed an arena of the recorded length; one of another length is not the heap's, whose arena is still what was left.
 abbrev pub if_recorded : Config → List ℕ → List ℕ → List ℕ → List ℕ
-if_recorded c arena bytes left = choose (has_recorded_length c arena) bytes left
+if_recorded c arena bytes left = if has_recorded_length c arena then bytes else left
 
 -- A call finds an arena; an enquiry, which is lent none, counts as finding what was left.
 abbrev pub found : Config → List ℕ → Call → List ℕ
@@ -50,15 +49,15 @@ caller (holding o) = o
 
 -- Byte i is one of those that a block was requested with.
 abbrev pub is_requested : ℕ → Segment → Bool
-is_requested i b = both (leb (offset b) i) (ltb i (offset b + b.requested))
+is_requested i b = leb (offset b) i && ltb i (offset b + b.requested)
 
 -- Byte i is in the guard of one of owner o's live blocks.
 abbrev pub in_guard_of : Config → ℕ → State → ℕ → Bool
-in_guard_of c o h i = not (is_none (first_of (in_guard c i) (owned_by o h.blocks)))
+in_guard_of c o h i = not (is_none (find (in_guard c i) (owned_by o h.blocks)))
 
 -- Byte i is none of those that a live block was requested with.
 abbrev pub not_requested : State → ℕ → Bool
-not_requested h i = is_none (first_of (is_requested i) h.blocks)
+not_requested h i = is_none (find (is_requested i) h.blocks)
 
 -- Between the calls of a list nobody writes to the bytes of which a test holds: each call finds them as the call before, or the making, left them.
 abbrev pub Unwritten : Config → (State → ℕ → Bool) → State → List ℕ → List Call → Type 0

@@ -3,13 +3,12 @@
 use mathlib.Core.Path.{◌≡◌, sym, subst, ◌∙◌}
 use mathlib.Core.Bool.{true, false}
 use mathlib.Core.List.{List}
-use Rattle.std.specs.Prelude.{None, Some, Result, Ok, Err}
+use Rattle.std.specs.Prelude.{None, Some, Result, Ok, Err, if◌then◌else◌}
 use Prim.Native.Nat.{ℕ, ◌+◌, ◌-◌, ◌*◌, ◌≤◌, ◌<◌}
 use native.Mathlib.Omega.{arith}
 use lib.Dec.{leb, ltb}
 use lib.ListN.{length, get_or}
 use borrow.Author.Tests.{le-leb, lt-leb, lt-ltb, le-ltb}
-use Rattle.model.specs.Choose.{choose}
 use Rattle.model.specs.Quantities.{is_owner}
 use Rattle.model.specs.Allocation.{needed, granules_of, owned_by}
 use Rattle.model.specs.Orders.{first_reason, unless, quota_order, totals_order, holding_order}
@@ -107,8 +106,8 @@ module _ (r : Heap) (ws : List ℕ) (k : Census) (e : Examination r ws k) where
     module _ (n : ℕ) where
       -- 5 and 6 of a request by an owner are told by its quotas and its figures.
       quotas_told : first_reason (quota_order (config_of r) (state_in r ws) o n)
-          ≡ choose (leb (get_or r.block_quotas (o - 1) 0) (get_or k.blocks (o - 1) 0)) (Some refusal.BlockQuota)
-          (choose (ltb (get_or r.granule_quotas (o - 1) 0) (get_or k.held (o - 1) 0 + needed (config_of r) n)) (Some refusal.GranuleQuota) None)
+          ≡ (if leb (get_or r.block_quotas (o - 1) 0) (get_or k.blocks (o - 1) 0) then Some refusal.BlockQuota
+          else if ltb (get_or r.granule_quotas (o - 1) 0) (get_or k.held (o - 1) 0 + needed (config_of r) n) then Some refusal.GranuleQuota else None)
       quotas_told =
           rw (
             quota_at r.block_quotas o (owner_least o w),

@@ -3,13 +3,12 @@
 use mathlib.Core.Path.{◌≡◌, sym, ap, ◌∙◌, subst}
 use mathlib.Core.Bool.{Bool, true, false}
 use mathlib.Core.List.{List, [], ◌∷◌, ◌++◌}
-use Rattle.std.specs.Prelude.{None, Some, Result, Ok, Err}
+use Rattle.std.specs.Prelude.{None, Some, Result, Ok, Err, if◌then◌else◌}
 use Prim.Native.Nat.{ℕ, ◌+◌, ◌*◌, ◌/◌, ◌%◌, ◌≤◌, ◌<◌}
 use native.Mathlib.Omega.{arith}
 use lib.Dec.{leb, ltb, eqb}
 use lib.ListN.{length, replicate}
 use borrow.Author.Tests.{not-false, eqb-true}
-use Rattle.model.specs.Choose.{choose}
 use Rattle.model.specs.Quantities.{is_owner}
 use Rattle.model.specs.Allocation.{granules_of, offset, bytes, block_at, has_granule, block_over, without}
 use Rattle.model.specs.Arena.{has_recorded_length, written, guard_offset, guard_bytes, is_broken}
@@ -89,7 +88,7 @@ module _ {r : Heap} {ws : List ℕ} {x i : ℕ} (b : BlockRow r ws x i) (v : val
       omega (arith, guard_inside (config_of r) s w.live.sized, w.inside, eqb-true (length arena) (16 * r.granules) whole)
 
   -- and 19 is asked of it.
-  pub guard_asked : (t : Bool) → t ≡ is_broken (config_of r) arena s → first_reason (broken_guard (config_of r) (blocks_in r.rows ws) arena x ∷ []) ≡ choose t (Some refusal.BrokenGuard) None
+  pub guard_asked : (t : Bool) → t ≡ is_broken (config_of r) arena s → first_reason (broken_guard (config_of r) (blocks_in r.rows ws) arena x ∷ []) ≡ (if t then Some refusal.BrokenGuard else None)
   guard_asked t q = rw (at_row, q)
 
 -- Where 11 does not apply the arena has the length recorded.
@@ -118,10 +117,10 @@ module _ (r : Heap) (ws : List ℕ) (o x : ℕ) where
     e = is ∙ ap (λ (ys : List Segment). nth_row ys i) read
 
     -- in the arena, the block over the granule is s if that is live, and else there is none
-    over : leb (16 * r.granules) x ≡ false → block_over (x / 16) blocks ≡ choose (is_live s) (Some s) None
+    over : leb (16 * r.granules) x ≡ false → block_over (x / 16) blocks ≡ (if is_live s then Some s else None)
     over p =
         over_row (config_of r) (segments_in r.rows ws) (x / 16) i (valid_map r ws v) (omega tests) w
-        ∙ ap (λ (k : Segment). choose (is_live k) (Some k) None) (sym e)
+        ∙ ap (λ (k : Segment). if is_live k then Some k else None) (sym e)
 
     -- past 15, 16, 17 and 9 the block at x is s
     begun : leb (16 * r.granules) x ≡ false → eqb (x % 16) 0 ≡ true → is_free s ≡ false → ltb s.start (x / 16) ≡ false → block_at x blocks ≡ Some s

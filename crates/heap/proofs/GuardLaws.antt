@@ -2,12 +2,12 @@
 -- Assumes nothing.
 use mathlib.Core.Path.{◌≡◌, sym, ap, ◌∙◌}
 use mathlib.Core.List.{List}
-use Rattle.std.specs.Prelude.{Option, None, Some, Ok, Err}
+use Rattle.std.specs.Prelude.{Option, None, Some, Ok, Err, if◌then◌else◌, ◌&&◌}
+use Rattle.std.specs.Option.{option_map_or}
 use Prim.Native.Nat.{ℕ, ◌+◌, ◌*◌}
 use native.Mathlib.Omega.{arith}
 use lib.Dec.{leb, ltb}
 use lib.ListN.{get_or}
-use Rattle.model.specs.Choose.{choose, both, given}
 use Rattle.model.specs.Allocation.{granules_for, block, offset, resize}
 use Rattle.model.specs.Orders.{Order, first_reason, alloc_order, free_order, realloc_order}
 use Rattle.model.specs.Numbers.{number_of}
@@ -47,7 +47,7 @@ module _ (r : Heap) (ws bytes : List ℕ) (o n a : ℕ) (out : Outcome ℕ) (wor
 
   -- where it answers the offset x, the bytes of the granule after those that n bytes fill from there are 0x77 if there are guards, and every other byte stays.
   pub granted_bytes : (x : ℕ) → out.answer ≡ Ok x
-      → (i : ℕ) → get_or bytes_after i 0 ≡ choose (both (leb (x + 16 * granules_for n) i) (ltb i (x + 16 * granules_for n + 16 * r.guards))) 0x77 (get_or bytes i 0)
+      → (i : ℕ) → get_or bytes_after i 0 ≡ (if leb (x + 16 * granules_for n) i && ltb i (x + 16 * granules_for n + 16 * r.guards) then 0x77 else get_or bytes i 0)
   granted_bytes x e i =
       let order : Order Refusal = alloc_order (valid r ws) (config_of r) (state_in r ws) bytes o n a in
       split_option (first_reason order)
@@ -57,11 +57,11 @@ module _ (r : Heap) (ws bytes : List ℕ) (o n a : ℕ) (out : Outcome ℕ) (wor
       let g : 16 * (p.start + granules_for n) ≡ x + 16 * granules_for n = omega arith in
       ap (λ (l : List ℕ). get_or l i 0) d.arena
       ∙ alloc_each (valid r ws) (config_of r) (state_in r ws) bytes o n a q (block (config_of r) o n p.start) p.fits i
-      ∙ ap (λ (k : ℕ). choose (both (leb k i) (ltb i (k + 16 * r.guards))) 0x77 (get_or bytes i 0)) g)
+      ∙ ap (λ (k : ℕ). if leb k i && ltb i (k + 16 * r.guards) then 0x77 else get_or bytes i 0) g)
       (λ t q. let e' : Err t ≡ Ok x = rw q at (sym d.answer ∙ e) in let z : ◌≡◌ {A = ℕ} 0 1 = cc in absurd (omega arith))
 
 -- A resize that is not refused does not answer 19.
-no_19 : (f : Option Segment) (k : ℕ) → ¬ (given f (Ok (resized.Freed k)) (λ b. Ok (resized.At (offset b))) ≡ Err refusal.BrokenGuard)
+no_19 : (f : Option Segment) (k : ℕ) → ¬ (option_map_or (λ b. Ok (resized.At (offset b))) f (Ok (resized.Freed k)) ≡ Err refusal.BrokenGuard)
 no_19 None k e = let z : ◌≡◌ {A = ℕ} 0 1 = cc in omega arith
 no_19 (Some b) k e = let z : ◌≡◌ {A = ℕ} 0 1 = cc in omega arith
 

@@ -3,12 +3,11 @@
 use mathlib.Core.Path.{◌≡◌, sym, ap}
 use mathlib.Core.Bool.{true, false}
 use mathlib.Core.List.{List, ◌∷◌}
-use Rattle.std.specs.Prelude.{None, Some, Ok, Err}
+use Rattle.std.specs.Prelude.{None, Some, Ok, Err, if◌then◌else◌, ◌&&◌}
 use Prim.Native.Nat.{ℕ, ◌+◌, ◌-◌, ◌*◌, ◌/◌, ◌≤◌}
 use native.Mathlib.Omega.{arith}
 use lib.Dec.{leb, ltb}
 use lib.ListN.{length, get_or, replicate}
-use Rattle.model.specs.Choose.{choose, both}
 use Rattle.model.specs.Quantities.{in_range}
 use Rattle.model.specs.Allocation.{bytes, granules_of, free_granules}
 use Rattle.model.specs.SegmentMap.{longest_free}
@@ -49,7 +48,7 @@ free_refused s arena o x r e =
 
 -- A free that answers k sets exactly the k bytes from its offset on to zero, and every other byte stays.
 pub free_zeroes : (s : Stored) (arena : List ℕ) (o x k : ℕ) → free s arena o x ≡ Ok k
-    → (i : ℕ) → get_or (arena_after_free s arena o x) i 0 ≡ choose (both (leb x i) (ltb i (x + k))) 0 (get_or arena i 0)
+    → (i : ℕ) → get_or (arena_after_free s arena o x) i 0 ≡ (if leb x i && ltb i (x + k) then 0 else get_or arena i 0)
 free_zeroes s arena o x k e i =
     let a = answered (is_valid s) (config s) (state s) arena o x k e in
     let r : Released (is_valid s) (config s) (state s) arena o x = a.0 in

@@ -3,12 +3,12 @@
 use mathlib.Core.Path.{◌≡◌, sym, ap, ◌∙◌}
 use mathlib.Core.Bool.{true, false}
 use mathlib.Core.List.{List, [], ◌∷◌, ◌++◌, append-nil}
-use Rattle.std.specs.Prelude.{None, Some, Ok, Err}
+use Rattle.std.specs.Prelude.{None, Some, Ok, Err, if◌then◌else◌}
+use Rattle.std.specs.Option.{option_map_or}
 use Prim.Native.Nat.{ℕ, ◌*◌, ◌/◌, ◌-◌, ◌+◌, ◌≤◌}
 use native.Mathlib.Omega.{arith}
 use lib.ListN.{length, replicate, length-replicate, drop_of_length-le}
 use borrow.Author.Tests.{not-false, lt-ltb}
-use Rattle.model.specs.Choose.{choose, given}
 use Rattle.model.specs.Quantities.{is_arena, is_base, is_table, quotas_in_range, Config, in_range}
 use Rattle.model.specs.Allocation.{fresh}
 use Rattle.model.specs.Arena.{written, zeroed}
@@ -34,7 +34,7 @@ use Rattle.model.specs.declared.InitRefusal.{InitRefusal}
 not_done : (r : InitRefusal) → Err r ≡ Ok (tt {0}) → ⊥
 not_done r e = let z : ◌≡◌ {A = ℕ} 0 1 = cc in omega arith
 
-done_none : (rs : Order InitRefusal) → given (first_reason rs) (Ok (tt {0})) Err ≡ Ok (tt {0}) → first_reason rs ≡ None
+done_none : (rs : Order InitRefusal) → option_map_or Err (first_reason rs) (Ok (tt {0})) ≡ Ok (tt {0}) → first_reason rs ≡ None
 done_none rs e = split_option (first_reason rs) (λ q. q) (λ r q. absurd (not_done r (rw q at e)))
 
 -- an arena's length is a whole number of granules
@@ -116,7 +116,7 @@ module _ (arena words : List ℕ) (p : Plan) (done : init arena words p ≡ Ok t
       let z : length words - 4 ≡ 4 * (length words / 4 - 1) = omega (arith, rows_whole arena words p done) in
       rw z (sym (fresh_table (init_config arena words p) (init_range arena words p done)))
 
-  pub done_leaves : (bytes table : List ℕ) (g v : ℕ) → g ≡ choose p.guarded 1 0 → bytes ≡ written 0 (replicate (length arena) v) arena → v ≡ 0 → table ≡ words_of (free_run 0 (length arena / 16) ∷ []) ++ replicate (length words - 4) 0
+  pub done_leaves : (bytes table : List ℕ) (g v : ℕ) → g ≡ (if p.guarded then 1 else 0) → bytes ≡ written 0 (replicate (length arena) v) arena → v ≡ 0 → table ≡ words_of (free_run 0 (length arena / 16) ∷ []) ++ replicate (length words - 4) 0
       → InitDone arena words p (record {
         answer = Ok tt;
         heap = record { capacity = length words / 4; rows = 1; granules = length arena / 16; base = p.base; guards = g; used = 0; peak = 0; granule_quotas = p.granule_quotas; block_quotas = p.block_quotas };

@@ -3,13 +3,12 @@
 use mathlib.Core.Path.{◌≡◌, sym, ap, ◌∙◌, subst}
 use mathlib.Core.Bool.{Bool, true, false}
 use mathlib.Core.List.{List}
-use Rattle.std.specs.Prelude.{None, Some, Ok, Err}
+use Rattle.std.specs.Prelude.{None, Some, Ok, Err, if◌then◌else◌, ◌&&◌}
 use Prim.Native.Nat.{ℕ, ◌+◌, ◌*◌, ◌/◌, ◌≤◌, ◌<◌, min}
 use native.Mathlib.Omega.{arith}
 use lib.Dec.{leb, ltb}
 use lib.ListN.{get_or}
 use borrow.Author.Tests.{ne_eqb, le-leb, lt-ltb}
-use Rattle.model.specs.Choose.{choose, both}
 use Rattle.model.specs.Quantities.{Config, in_range}
 use Rattle.model.specs.Allocation.{State, granules_for, needed, offset, bytes, block, block_at, has_granule, stays, refit, resize}
 use Rattle.model.specs.Arena.{has_recorded_length, disjoint, guard_offset, guard_bytes, in_guard, is_broken}
@@ -125,7 +124,7 @@ module _ (s : Stored) (arena : List ℕ) (o x n : ℕ) where
 
     -- All bytes but the guards' go along: those before the new guard come from where the block was, and of the old guard come zeros.
     pub realloc_along : (i : ℕ) → i < held → i < 16 * granules_for n
-        → get_or (arena_after_realloc s arena o x n) (y + i) 0 ≡ choose (leb (16 * granules_for requested) i) 0 (get_or arena (x + i) 0)
+        → get_or (arena_after_realloc s arena o x n) (y + i) 0 ≡ (if leb (16 * granules_for requested) i then 0 else get_or arena (x + i) 0)
     realloc_along i p q =
         let a : Answered y = answered y e in
         let t = told a.old a.was in
@@ -138,7 +137,7 @@ module _ (s : Stored) (arena : List ℕ) (o x n : ℕ) where
         ap (λ (k : ℕ). get_or (arena_after_realloc s arena o x n) (k + i) 0) (sym a.at)
         ∙ bytes_along (is_valid s) (config s) (state s) a.kept arena o x n a.passed a.old a.new a.was a.left i
         (omega (arith, a.sized, t.1)) (before_guard (config s) a.new (offset a.new + i) (omega (arith, begun a, a.at)))
-        ∙ ap (λ (b : Bool). choose b 0 (get_or arena (x + i) 0)) in-old
+        ∙ ap (λ (b : Bool). if b then 0 else get_or arena (x + i) 0) in-old
 
     -- The bytes of the new guard, if the heap has guards, are 0x77.
     pub realloc_guard : (i : ℕ) → y + 16 * granules_for n ≤ i → i < y + 16 * needed (config s) n → get_or (arena_after_realloc s arena o x n) i 0 ≡ 0x77
@@ -148,16 +147,16 @@ module _ (s : Stored) (arena : List ℕ) (o x n : ℕ) where
         (rw (le-leb (guard_offset a.new) i (omega (arith, begun a)), lt-ltb i (guard_offset a.new + guard_bytes (config s)) (omega (arith, begun a))))
 
     -- Outside the block that is left, the old block's bytes are zero, so that nothing of it is readable there, and every other byte is as it was.
-    pub realloc_elsewhere : (i : ℕ) → both (leb y i) (ltb i (y + 16 * needed (config s) n)) ≡ false
-        → get_or (arena_after_realloc s arena o x n) i 0 ≡ choose (both (leb x i) (ltb i (x + held))) 0 (get_or arena i 0)
+    pub realloc_elsewhere : (i : ℕ) → (leb y i && ltb i (y + 16 * needed (config s) n)) ≡ false
+        → get_or (arena_after_realloc s arena o x n) i 0 ≡ (if leb x i && ltb i (x + held) then 0 else get_or arena i 0)
     realloc_elsewhere i q =
         let a : Answered y = answered y e in
         let t = told a.old a.was in
         let first : offset a.old ≡ x = (begins (config s) 0 x (state s).blocks a.old a.kept.ordered a.was).first in
         let out : has_granule (i / 16) a.new ≡ false =
-        sym (byte_granule i a.new) ∙ (λ j. both (leb (a.at j) i) (ltb i (a.at j + 16 * a.sized j))) ∙ q in
+        sym (byte_granule i a.new) ∙ (λ j. leb (a.at j) i && ltb i (a.at j + 16 * a.sized j)) ∙ q in
         bytes_elsewhere (is_valid s) (config s) (state s) a.kept arena o x n a.passed a.old a.new a.was a.left i out
-        ∙ ap (λ (b : Bool). choose b 0 (get_or arena i 0)) (sym (byte_granule i a.old) ∙ (λ j. both (leb (first j) i) (ltb i (first j + t.1 j))))
+        ∙ ap (λ (b : Bool). if b then 0 else get_or arena i 0) (sym (byte_granule i a.old) ∙ (λ j. leb (first j) i && ltb i (first j + t.1 j)))
 
     -- Answered where it was, the block is put back as it was by a resize to the bytes requested before, if no byte of its guard was changed meanwhile: this is not refused, and every word of the table is as it was before both.
     pub realloc_back : y ≡ x → (bytes : List ℕ) → has_recorded_length (config s) bytes ≡ true

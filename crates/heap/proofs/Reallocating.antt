@@ -3,13 +3,12 @@
 use mathlib.Core.Path.{◌≡◌, refl, sym, ap, ◌∙◌, subst}
 use mathlib.Core.Bool.{true}
 use mathlib.Core.List.{List}
-use Rattle.std.specs.Prelude.{Some, Result, Ok, Err}
+use Rattle.std.specs.Prelude.{Some, Result, Ok, Err, ◌&&◌, ◌||◌}
 use Prim.Native.Nat.{ℕ, ◌+◌, ◌*◌, ◌/◌, ◌≤◌}
 use native.Mathlib.Omega.{arith}
 use lib.Dec.{leb, eqb}
 use lib.ListN.{length}
 use borrow.Author.Tests.{eqb-true, eq-eqb, ne_eqb, le-leb}
-use Rattle.model.specs.Choose.{either, both}
 use Rattle.model.specs.Quantities.{Config}
 use Rattle.model.specs.Allocation.{needed, granules_of, block, insert, offset, block_at, without, stays, resize, bytes}
 use Rattle.model.specs.Arena.{disjoint, moved, guard_offset, guard_bytes, with_guard, without_guard}
@@ -163,7 +162,7 @@ module _ (r : Heap) (ws arena : List ℕ) (o x n : ℕ) (some_size : 1 ≤ n) wh
             )
 
         -- The block stays in its place, or goes to one that has no byte of the old and is no shorter.
-        apart : either (eqb x (16 * s)) (both (leb (bytes old) (bytes new)) (disjoint x (bytes old) (16 * s) (bytes new))) ≡ true
+        apart : (eqb x (16 * s) || (leb (bytes old) (bytes new) && disjoint x (bytes old) (16 * s) (bytes new))) ≡ true
         apart =
             split (stays (config_of r) blocks x n)
             (λ t. let e : Some (block (config_of r) o n (x / 16)) ≡ Some (block (config_of r) o n s) = rw t at d.1.new in
@@ -181,15 +180,15 @@ module _ (r : Heap) (ws arena : List ℕ) (o x n : ℕ) (some_size : 1 ≤ n) wh
             × (1 ≤ r.guards → guard_offset new + guard_bytes (config_of r) ≤ length arena)
             × (offset old + bytes old ≤ length arena)
             × (offset new + bytes new ≤ length arena)
-            × (either (eqb (offset old) (offset new)) (both (leb (bytes old) (bytes new)) (disjoint (offset old) (bytes old) (offset new) (bytes new))) ≡ true)
+            × ((eqb (offset old) (offset new) || (leb (bytes old) (bytes new) && disjoint (offset old) (bytes old) (offset new) (bytes new))) ≡ true)
         carry_asked = (
           new_asked,
           λ g. guard_lies (row_found d.1.old) checked arena has.freed.whole old d.1.old.there,
           λ g. new_guard_lem,
           omega (arith, old_inside, first),
           omega (arith, new_inside, ap (λ (b : Segment). b.start) is),
-          subst (λ (k : ℕ). either (eqb k (offset new)) (both (leb (bytes old) (bytes new)) (disjoint k (bytes old) (offset new) (bytes new))) ≡ true) (sym first)
-              (subst (λ (k : ℕ). either (eqb x k) (both (leb (bytes old) (bytes new)) (disjoint x (bytes old) k (bytes new))) ≡ true) (sym (ap offset is)) apart),
+          subst (λ (k : ℕ). (eqb k (offset new) || (leb (bytes old) (bytes new) && disjoint k (bytes old) (offset new) (bytes new))) ≡ true) (sym first)
+              (subst (λ (k : ℕ). (eqb x k || (leb (bytes old) (bytes new) && disjoint x (bytes old) k (bytes new))) ≡ true) (sym (ap offset is)) apart),
         )
 
         resize_is : resize (config_of r) blocks o x n ≡ Some (block (config_of r) o n s)

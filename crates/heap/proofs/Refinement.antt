@@ -41,11 +41,11 @@ module _ (s : Stored) (arena : List ℕ) (o x : ℕ) where
 
   -- A free is refused by one of 15, 16, 17, 9 exactly if it was refused by 9;
   pub free_nine : is_of_the_four (numbered_free s arena o x).0 ≡ eqb numbered_free01.0 9
-  free_nine = model.nine_numbered _ _ free_orders _
+  free_nine = model.nine_numbered _ _ free_orders (bytes_at (state s) x ∷ [])
 
   -- every other answer is what it was, number and values,
   pub free_others : is_of_the_four (numbered_free s arena o x).0 ≡ false → numbered_free s arena o x ≡ numbered_free01
-  free_others e = model.others_numbered _ _ free_orders _ e
+  free_others e = model.others_numbered _ _ free_orders (bytes_at (state s) x ∷ []) e
 
   -- and so is what it leaves.
   pub free_effects : (after_free s arena o x ≡ after_free01) × (arena_after_free s arena o x ≡ arena_after_free01)
@@ -53,7 +53,7 @@ module _ (s : Stored) (arena : List ℕ) (o x : ℕ) where
 
   -- The same holds of the enquiry for a block's size, which changes nothing.
   pub size_nine : is_of_the_four (numbered_block_size s o x).0 ≡ eqb numbered_block_size01.0 9
-  size_nine = model.nine_numbered _ _ size_orders _
+  size_nine = model.nine_numbered _ _ size_orders (requested_at (state s) x ∷ bytes_at (state s) x ∷ [])
 
   pub size_others : is_of_the_four (numbered_block_size s o x).0 ≡ false → numbered_block_size s o x ≡ numbered_block_size01
-  size_others e = model.others_numbered _ _ size_orders _ e
+  size_others e = model.others_numbered _ _ size_orders (requested_at (state s) x ∷ bytes_at (state s) x ∷ []) e

@@ -3,13 +3,14 @@
 use mathlib.Core.Path.{◌≡◌, refl, sym, ap, ◌∙◌, subst}
 use mathlib.Core.Bool.{true, false}
 use mathlib.Core.List.{List}
-use Rattle.std.specs.Prelude.{Option, None, Some, Result, Ok, Err}
+use Rattle.std.specs.Prelude.{Option, None, Some, Result, Ok, Err, if◌then◌else◌}
+use Rattle.std.specs.Option.{option_map_or}
 use Prim.Native.Nat.{ℕ, ◌+◌, ◌-◌, ◌/◌, ◌%◌, ◌≤◌, ◌<◌}
 use native.Mathlib.Omega.{arith}
 use lib.Dec.{ltb}
 use lib.ListN.{get_or}
 use borrow.Author.Tests.{le-leb, le-ltb, lt-ltb}
-use Rattle.model.specs.Choose.{choose, total, given}
+use Rattle.model.specs.Choose.{total}
 use Rattle.model.specs.Quantities.{is_owner, Config, quota}
 use Rattle.model.specs.Allocation.{needed, charge, room, lowest_start, block, insert, without, stays, refit, owned_by}
 use Rattle.model.specs.SegmentMap.{is_live, rows_of}
@@ -67,10 +68,10 @@ module _ (r : Heap) (ws : List ℕ) (v : valid r ws ≡ true) (o : ℕ) (known :
     starts = omega (arith, row_at b)
 
     -- the resized block is at the start that is looked for
-    refit_is : refit (config_of r) blocks o x n ≡ given (refit_start (config_of r) (segments_in r.rows ws) i (needed (config_of r) n)) None (λ s. Some (block (config_of r) o n s))
+    refit_is : refit (config_of r) blocks o x n ≡ option_map_or (λ s. Some (block (config_of r) o n s)) (refit_start (config_of r) (segments_in r.rows ws) i (needed (config_of r) n)) None
     refit_is =
-        let e : refit_start (config_of r) (segments_in r.rows ws) i (needed (config_of r) n) ≡ choose (stays (config_of r) blocks x n) (Some (x / 16)) (lowest_start (config_of r) blocks (needed (config_of r) n) 16) =
-        λ j. choose (room (config_of r) (others_are j) (needed (config_of r) n) (starts j)) (Some (starts j)) (lowest_start (config_of r) blocks (needed (config_of r) n) 16) in
+        let e : refit_start (config_of r) (segments_in r.rows ws) i (needed (config_of r) n) ≡ (if stays (config_of r) blocks x n then Some (x / 16) else lowest_start (config_of r) blocks (needed (config_of r) n) 16) =
+        λ j. if room (config_of r) (others_are j) (needed (config_of r) n) (starts j) then Some (starts j) else lowest_start (config_of r) blocks (needed (config_of r) n) 16 in
         rw e (split (stays (config_of r) blocks x n) (λ q. rw q) (λ q. rw q))
 
     -- A resized block at its start, read as d: it may take the place of the one in row i.
@@ -111,19 +112,19 @@ module _ (r : Heap) (ws : List ℕ) (v : valid r ws ≡ true) (o : ℕ) (known :
     -- What the search says.
     module _ (xs : List Segment) (read : xs ≡ segments_in r.rows ws) (g : ℕ) (size : g ≡ needed (config_of r) n) (f : Option ℕ)
         (w : (c : Config) → c.base % 16 ≡ 0 → c.granules ≤ 65536 → is_map c xs ≡ true → is_live (nth_row xs i) ≡ true → f ≡ refit_start c xs i g) where
-      found_is : refit (config_of r) blocks o x n ≡ given f None (λ s. Some (block (config_of r) o n s))
+      found_is : refit (config_of r) blocks o x n ≡ option_map_or (λ s. Some (block (config_of r) o n s)) f None
       found_is =
           refit_is
-          ∙ ap (λ (t : Option ℕ). given t None (λ s. Some (block (config_of r) o n s)))
+          ∙ ap (λ (t : Option ℕ). option_map_or (λ s. Some (block (config_of r) o n s)) t None)
           (sym (w (config_of r) bounded.base bounded.granules (rw read (valid_map r ws v)) (rw read (row_live b)) ∙ (λ j. refit_start (config_of r) (read j) i (size j))))
 
       -- 7: there is no place,
       pub replace_nowhere : f ≡ None → first_reason (replace_order (config_of r) (state_in r ws) o x n) ≡ Some refusal.NoPlace
-      replace_nowhere q = rw (found_is ∙ ap (λ (f : Option ℕ). given f None (λ s. Some (block (config_of r) o n s))) q)
+      replace_nowhere q = rw (found_is ∙ ap (λ (f : Option ℕ). option_map_or (λ s. Some (block (config_of r) o n s)) f None) q)
 
       -- or there is this one.
       pub refit_at : (s : ℕ) → f ≡ Some s → refit (config_of r) blocks o x n ≡ Some (block (config_of r) o n s)
-      refit_at s q = found_is ∙ ap (λ (f : Option ℕ). given f None (λ s. Some (block (config_of r) o n s))) q
+      refit_at s q = found_is ∙ ap (λ (f : Option ℕ). option_map_or (λ s. Some (block (config_of r) o n s)) f None) q
 
     -- 6, by the figures that were counted.
     module _ (k : Census) (e : Examination r ws k) (owned : was.block.owner ≡ o) where

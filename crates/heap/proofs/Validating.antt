@@ -8,7 +8,9 @@ use native.Mathlib.Omega.{arith}
 use lib.Dec.{leb, eqb}
 use lib.ListN.{length, get_or, drop}
 use borrow.Author.Tests.{eqb-true, eq-eqb, le-leb, lt-leb, leb-true}
-use Rattle.model.specs.Choose.{both, every, total}
+use Rattle.std.specs.Prelude.{◌&&◌}
+use Rattle.std.specs.List.{list_all}
+use Rattle.model.specs.Choose.{total}
 use Rattle.model.specs.Quantities.{within, is_arena, is_table, owners, quota, are_quotas, in_range}
 use Rattle.model.specs.Allocation.{charge, granules_of, owned_by}
 use Rattle.model.proofs.Choosing.{split, tests, same_test, parts, clash, both_left, both_right, both_true}
@@ -42,17 +44,17 @@ keeps_not figures quotas i h k =
 pub not_within : (most x : ℕ) → most < x → within 0 most x ≡ false
 not_within most x h = rw (lt-leb x most h) (split (leb 0 x) (λ q. rw q) (λ q. rw q))
 
-pub quotas_all : (most : ℕ) (qs : List ℕ) → length qs ≡ 8 → every (within 0 most) qs ≡ true → true ≡ are_quotas most qs
+pub quotas_all : (most : ℕ) (qs : List ℕ) → length qs ≡ 8 → list_all (within 0 most) qs ≡ true → true ≡ are_quotas most qs
 quotas_all most qs n e = sym (both_true _ _ (eq-eqb (length qs) 8 n) e)
 
-pub quotas_not : (most : ℕ) (qs : List ℕ) → every (within 0 most) qs ≡ false → false ≡ are_quotas most qs
-quotas_not most qs e = split (are_quotas most qs) (λ q. absurd (clash _ (both_right (eqb (length qs) 8) (every (within 0 most) qs) q) e)) (λ q. sym q)
+pub quotas_not : (most : ℕ) (qs : List ℕ) → list_all (within 0 most) qs ≡ false → false ≡ are_quotas most qs
+quotas_not most qs e = split (are_quotas most qs) (λ q. absurd (clash _ (both_right (eqb (length qs) 8) (list_all (within 0 most) qs) q) e)) (λ q. sym q)
 
 -- The arena's range in granules, and the table's in rows.
 in_units : (low high step least most n m : ℕ) → (low ≤ m → least ≤ n) → (least ≤ n → low ≤ m) → (m ≤ high → n ≤ most) → (n ≤ most → m ≤ high) → m % step ≡ 0
-    → both (within low high m) (eqb (m % step) 0) ≡ within least most n
+    → (within low high m && eqb (m % step) 0) ≡ within least most n
 in_units low high step least most n m down up down' up' z =
-    same_test (both (within low high m) (eqb (m % step) 0)) (within least most n)
+    same_test (within low high m && eqb (m % step) 0) (within least most n)
     (λ q. let r : within low high m ≡ true = search parts in
     bounds_within least most n (down (within_least low high m r)) (down' (within_most low high m r)))
     (λ q. both_true _ _ (bounds_within low high m (up (within_least least most n q)) (up' (within_most least most n q))) (eq-eqb (m % step) 0 z))
@@ -68,7 +70,7 @@ table_range n = in_units 4 2048 4 1 512 n (4 * n) (λ h. omega arith) (λ h. ome
 module _ (r : Heap) (ws : List ℕ) where
   pub not_framed : framed r ws ≡ false → valid r ws ≡ false
   not_framed q =
-      sym (not_valid r ws (λ a. clash _ (both_true _ _ a.range (both_true _ _ (eq-eqb _ _ a.words) (bounds_within 1 r.capacity r.rows a.rows_least a.rows_most))) q))
+      sym (not_valid r ws (λ a. clash _ (both_true _ _ (both_true _ _ a.range (eq-eqb _ _ a.words)) (bounds_within 1 r.capacity r.rows a.rows_least a.rows_most)) q))
 
   -- What the pass over the rows asks for.
   pub framed_rows : framed r ws ≡ true → (4 * r.rows ≤ length ws) × (r.guards ≤ 1)
@@ -92,7 +94,7 @@ module _ (r : Heap) (ws : List ℕ) (k : Census) (map : is_map (config_of r) (se
   charged = map_charged (config_of r) (segments_in r.rows ws) map
 
   quotas_kept : keeps_all k.blocks r.block_quotas ≡ true → keeps_all k.held r.granule_quotas ≡ true
-      → every (keeps_quotas (config_of r) (blocks_in r.rows ws)) owners ≡ true
+      → list_all (keeps_quotas (config_of r) (blocks_in r.rows ws)) owners ≡ true
   quotas_kept p q =
       all_owners (keeps_quotas (config_of r) (blocks_in r.rows ws))
       (λ o a b. both_true _ _
@@ -127,24 +129,24 @@ module _ (r : Heap) (ws : List ℕ) (k : Census) (map : is_map (config_of r) (se
       let used : eqb r.used k.used ≡ true = search parts in
       let peak : within r.used r.granules r.peak ≡ true = search parts in
       conditions_valid r ws (record {
-        range = both_left (in_range (config_of r)) _ f;
+        range = search parts;
         words = eqb-true _ _ words;
         rows_least = within_least 1 r.capacity r.rows rows;
         rows_most = within_most 1 r.capacity r.rows rows;
         tiled = these.tiled;
         formed = these.formed;
         apart = these.apart;
-        unused = both_left (every (eqb 0) (drop (4 * r.rows) ws)) _ q;
+        unused = search parts;
         used = eqb-true _ _ used ∙ figures.used;
         peak_least = within_least r.used r.granules r.peak peak;
         peak_most = within_most r.used r.granules r.peak peak;
         held = quotas_kept (search parts) (search parts);
       }))
       (λ v. let a : Conditions r ws = valid_conditions r ws v in
-      both_true _ _ a.unused
-      (both_true _ _ (eq-eqb r.used k.used (omega (arith, a.used, figures.used)))
-      (both_true _ _ (bounds_within r.used r.granules r.peak a.peak_least a.peak_most)
-      (both_true _ _ (blocks_kept a) (granules_kept a)))))
+      both_true _ _ (both_true _ _ (both_true _ _ (both_true _ _ a.unused (eq-eqb r.used k.used (omega (arith, a.used, figures.used))))
+      (bounds_within r.used r.granules r.peak a.peak_least a.peak_most))
+      (blocks_kept a))
+      (granules_kept a))
 
 -- What a check tells of a valid heap.
 pub examined : (r : Heap) (ws : List ℕ) (k : Census) → is_map (config_of r) (segments_in r.rows ws) ≡ true → Figures (config_of r) (segments_in r.rows ws) k → framed r ws ≡ true

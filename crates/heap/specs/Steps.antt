@@ -1,7 +1,7 @@
 -- What the functions within the crate decide and leave, step by step: a caller needs none of it.
 -- Assumes nothing.
-use Rattle.std.specs.Prelude.{ℕ, ◌-◌, ◌*◌, ◌/◌, ◌<◌, max, ◌≡◌, Bool, true, false, not, List, [], ◌∷◌, leb, ltb, eqb, length, get_or, drop, None, Some, Result, Ok, Err}
-use Rattle.model.specs.Choose.{both, every}
+use Rattle.std.specs.Prelude.{ℕ, ◌-◌, ◌*◌, ◌/◌, ◌<◌, max, ◌≡◌, Bool, true, false, not, ◌&&◌, List, [], ◌∷◌, leb, ltb, eqb, length, get_or, drop, None, Some, Result, Ok, Err}
+use Rattle.std.specs.List.{list_all}
 use Rattle.model.specs.Quantities.{within, owners, in_range, quota}
 use Rattle.model.specs.Allocation.{needed, lowest_start, block, block_at, refit}
 use Rattle.model.specs.SegmentMap.{is_free}
@@ -24,19 +24,20 @@ use Rattle.heap.specs.declared.resizing.Refitted.{Refitted}
 -- The conditions of a valid heap that can be told without a look at a row: the ranges, the table's length, and that the rows in use are 1 to its rows.
 abbrev pub framed : Heap → List ℕ → Bool
 framed r ws =
-    both (in_range (config_of r)) (both (eqb (length ws) (4 * r.capacity)) (within 1 r.capacity r.rows))
+    in_range (config_of r) && eqb (length ws) (4 * r.capacity) && within 1 r.capacity r.rows
 
 -- Each owner's figure is within its quota.
 abbrev pub keeps_all : List ℕ → List ℕ → Bool
-keeps_all figures quotas = every (λ (o : ℕ). leb (get_or figures (o - 1) 0) (quota quotas o)) owners
+keeps_all figures quotas = list_all (λ (o : ℕ). leb (get_or figures (o - 1) 0) (quota quotas o)) owners
 
 -- The conditions that are left when the rows in use are a map, told by the figures counted in them.
 abbrev pub agrees_with : Heap → List ℕ → Census → Bool
 agrees_with r ws k =
-    both (every (eqb 0) (drop (4 * r.rows) ws))
-    (both (eqb r.used k.used)
-    (both (within r.used r.granules r.peak)
-    (both (keeps_all k.blocks r.block_quotas) (keeps_all k.held r.granule_quotas))))
+    list_all (eqb 0) (drop (4 * r.rows) ws)
+    && eqb r.used k.used
+    && within r.used r.granules r.peak
+    && keeps_all k.blocks r.block_quotas
+    && keeps_all k.held r.granule_quotas
 
 -- The record and the table are valid, and the figures are those of the live blocks and free runs.
 pub record Examination (r : Heap) (ws : List ℕ) (k : Census) : Type 0 where

@@ -1,7 +1,6 @@
 //! The ranges of what a heap is made with, and of what a call is handed.
 
-ghost use Rattle.std.specs.Prelude.{◌≡◌, ◌*◌, ◌%◌, ◌≤◌, eqb};
-ghost use Rattle.model.specs.Choose.{both};
+ghost use Rattle.std.specs.Prelude.{◌≡◌, ◌*◌, ◌%◌, ◌≤◌, eqb, ◌&&◌};
 ghost use Rattle.model.specs.Quantities.{within, is_arena, is_base, is_table, is_owner, are_quotas, quotas_in_range, is_alignment, in_range};
 ghost use Rattle.heap.specs.Stored.{config_of};
 
@@ -32,7 +31,7 @@ pub(crate) fn is_base(granules: u32, base: u32) -> bool
 /// The number is in a range, and a multiple of the step.
 fn in_steps(n: usize, least: usize, most: usize, step: usize) -> bool
     requires { 1 ≤ step }
-    ensures { result ≡ both (within least most n) (eqb (n % step) 0) }
+    ensures { result ≡ (within least most n && eqb (n % step) 0) }
 {
     (least..=most).contains(&n) && n % step == 0
 }

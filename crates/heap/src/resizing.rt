@@ -1,7 +1,6 @@
 //! Resizes: decided with nothing changed, then carried out.
 
-ghost use Rattle.std.specs.Prelude.{◌≡◌, true, ℕ, ◌+◌, ◌≤◌, leb, eqb, length, Ok};
-ghost use Rattle.model.specs.Choose.{both, either};
+ghost use Rattle.std.specs.Prelude.{◌≡◌, true, ◌&&◌, ◌||◌, ℕ, ◌+◌, ◌≤◌, leb, eqb, length, Ok};
 ghost use Rattle.model.specs.Quantities.{is_owner};
 ghost use Rattle.model.specs.Allocation.{offset, bytes};
 ghost use Rattle.model.specs.Arena.{disjoint, moved, guard_offset, guard_bytes, with_guard, without_guard};
@@ -104,7 +103,7 @@ impl Heap {
         requires new_guard { 1 ≤ self.guards → guard_offset new + guard_bytes (config_of self) ≤ length arena.old }
         requires old { offset old + bytes old ≤ length arena.old }
         requires new { offset new + bytes new ≤ length arena.old }
-        requires apart { either (eqb (offset old) (offset new)) (both (leb (bytes old) (bytes new)) (disjoint (offset old) (bytes old) (offset new) (bytes new))) ≡ true }
+        requires apart { (eqb (offset old) (offset new) || (leb (bytes old) (bytes new) && disjoint (offset old) (bytes old) (offset new) (bytes new))) ≡ true }
         ensures { arena.new ≡ with_guard (config_of self) new (moved (offset old) (bytes old) (offset new) (bytes new) (without_guard (config_of self) old arena.old)) }
     {
         let from = 16 * (old.start as usize);

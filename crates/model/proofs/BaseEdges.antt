@@ -6,7 +6,9 @@ use mathlib.Core.List.{List, [], ◌∷◌, ◌++◌}
 use Prim.Native.Nat.{ℕ, ◌+◌, ◌-◌, ◌*◌, ◌/◌}
 use lib.Dec.{eqb}
 use lib.ListN.{length, replicate, take, drop, get_or}
-use Rattle.model.specs.Choose.{choose, both, every, given}
+use Rattle.std.specs.Prelude.{if◌then◌else◌, ◌&&◌}
+use Rattle.std.specs.List.{list_all}
+use Rattle.std.specs.Option.{option_map_or}
 use Rattle.model.specs.Quantities.{is_base, Config, in_range, quota}
 use Rattle.model.specs.Allocation.{State, block_at}
 use Rattle.model.specs.Arena.{slice}
@@ -372,66 +374,68 @@ same false b = not b
 
 -- The number and the value of an answer are these.
 abbrev answers : ℕ → ℕ → Numbered → Bool
-answers number value a = both (eqb a.0 number) (eqb (get_or a.1 0 0) value)
+answers number value a = eqb a.0 number && eqb (get_or a.1 0 0) value
 
 -- A heap is made with an arena of so many bytes, a table of so many words, a base and the quotas of `plan`, and is in range.
 abbrev made_with : ℕ → ℕ → ℕ → ℕ → Config → Bool
 made_with bytes words b q c =
-    both (both (eqb (16 * c.granules) bytes) (both (eqb c.base b) (eqb (4 * c.capacity) words)))
-    (both (both (eqb (quota c.granule_quotas 1) 0) (eqb (quota c.granule_quotas 8) q)) (both (eqb (quota c.block_quotas 8) 256) (in_range c)))
+    eqb (16 * c.granules) bytes && eqb c.base b && eqb (4 * c.capacity) words
+    && (eqb (quota c.granule_quotas 1) 0 && eqb (quota c.granule_quotas 8) q)
+    && eqb (quota c.block_quotas 8) 256
+    && in_range c
 
 -- There are so many live blocks, and the one at offset x is of an owner's n bytes.
 abbrev is_live_at : ℕ → ℕ → ℕ → ℕ → State → Bool
 is_live_at count x o n h =
-    both (eqb (length h.blocks) count) (given (block_at x h.blocks) false (λ b. both (eqb b.owner o) (eqb b.requested n)))
+    eqb (length h.blocks) count && option_map_or (λ b. eqb b.owner o && eqb b.requested n) (block_at x h.blocks) false
 
 -- Bytes are so many, each of them k.
 abbrev filled : ℕ → ℕ → List ℕ → Bool
-filled count k bytes = both (eqb (length bytes) count) (every (eqb k) bytes)
+filled count k bytes = eqb (length bytes) count && list_all (eqb k) bytes
 
 -- Of an arena of 256 bytes the k from x on are 0, and the others 7.
 abbrev cleared : ℕ → ℕ → List ℕ → Bool
 cleared x k arena =
-    both (filled x 7 (take x arena)) (both (filled k 0 (slice x k arena)) (filled (256 - (x + k)) 7 (drop (x + k) arena)))
+    filled x 7 (take x arena) && filled k 0 (slice x k arena) && filled (256 - (x + k)) 7 (drop (x + k) arena)
 
 -- It holds at every base.
 abbrev at_each : (ℕ → Bool) → Bool
-at_each p = every p bases
+at_each p = list_all p bases
 
 -- A case comes out as the table says: the answer is the one there; if it is refused there are as many blocks as before, or the arena's bytes are what they were; else there is the block at the offset answered (none more or less), or the bytes of the one given back are zero.
 abbrev pub holds : Edge → Bool
-holds (range bytes b allowed) = both (same allowed (is_base bytes b)) (same allowed (in_range (ample (bytes / 16) b)))
+holds (range bytes b allowed) = same allowed (is_base bytes b) && same allowed (in_range (ample (bytes / 16) b))
 holds (making bytes words b q number) =
     let arena : List ℕ = replicate bytes 7 in
     let table : List ℕ = replicate words 9 in
     let p : Plan = plan b q in
-    both (eqb (made_numbered (init arena table p)).0 number)
-    (choose (eqb number 0)
-    (both (filled bytes 0 (arena_after_init arena table p)) (made_with bytes words b q (init_config arena table p)))
-    (filled bytes 7 (arena_after_init arena table p)))
+    eqb (made_numbered (init arena table p)).0 number
+    && (if eqb number 0
+    then filled bytes 0 (arena_after_init arena table p) && made_with bytes words b q (init_config arena table p)
+    else filled bytes 7 (arena_after_init arena table p))
 holds (request h o n a number x) =
     let after : State = after_alloc (is_valid h) (config h) (state h) [] o n a in
-    both (answers number x (value_numbered (alloc (is_valid h) (config h) (state h) [] o n a)))
-    (choose (eqb number 0) (is_live_at (length (state h).blocks + 1) x o n after) (eqb (length after.blocks) (length (state h).blocks)))
+    answers number x (value_numbered (alloc (is_valid h) (config h) (state h) [] o n a))
+    && (if eqb number 0 then is_live_at (length (state h).blocks + 1) x o n after else eqb (length after.blocks) (length (state h).blocks))
 holds (resize t o x n number v) =
     at_each (λ (b : ℕ).
     let h : Heap = packed b t in
     let after : State = after_realloc (is_valid h) (config h) (state h) (replicate 256 7) o x n in
-    both (answers number v (resized_numbered (realloc (is_valid h) (config h) (state h) (replicate 256 7) o x n)))
-    (choose (eqb number 0) (choose (eqb n 0) (eqb (length after.blocks) 3) (is_live_at 4 v o n after)) (eqb (length after.blocks) 4)))
+    answers number v (resized_numbered (realloc (is_valid h) (config h) (state h) (replicate 256 7) o x n))
+    && (if eqb number 0 then (if eqb n 0 then eqb (length after.blocks) 3 else is_live_at 4 v o n after) else eqb (length after.blocks) 4))
 holds (release o x number k) =
     at_each (λ (b : ℕ).
     let h : Heap = packed b 6 in
-    both (answers number k (value_numbered (free (is_valid h) (config h) (state h) (replicate 256 7) o x)))
-    (cleared (choose (eqb number 0) x 0) k (arena_after_free (is_valid h) (config h) (state h) (replicate 256 7) o x)))
+    answers number k (value_numbered (free (is_valid h) (config h) (state h) (replicate 256 7) o x))
+    && cleared (if eqb number 0 then x else 0) k (arena_after_free (is_valid h) (config h) (state h) (replicate 256 7) o x))
 holds (sums used rest peak longest) =
     at_each (λ (b : ℕ).
     let a : Numbered = totals_numbered (totals_of (is_valid (held b 6)) (config (held b 6)) (state (held b 6))) in
-    both (answers 0 used a) (both (eqb (get_or a.1 1 0) rest) (both (eqb (get_or a.1 2 0) peak) (eqb (get_or a.1 3 0) longest))))
+    answers 0 used a && eqb (get_or a.1 1 0) rest && eqb (get_or a.1 2 0) peak && eqb (get_or a.1 3 0) longest)
 holds (condition t suffice g m bounded) =
-    at_each (λ (b : ℕ). both (same suffice (rows_suffice (wide t b))) (same bounded (bound (wide t b) g m)))
+    at_each (λ (b : ℕ). same suffice (rows_suffice (wide t b)) && same bounded (bound (wide t b) g m))
 
 -- Each does.
-pub each : every holds edges ≡ true
+pub each : list_all holds edges ≡ true
 unfolding alloc_order free_order realloc_order init_order totals_order
 each = refl

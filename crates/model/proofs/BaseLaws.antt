@@ -5,13 +5,13 @@ use mathlib.Core.Bool.{Bool, true}
 use mathlib.Core.List.{List, [], ◌∷◌, ◌++◌}
 use mathlib.Core.Logic.{◌↔◌, ◌⊎◌, inl, inr, ⊎_elim}
 use Rattle.std.specs.Prelude.{Option, Ok, Err}
+use Rattle.std.specs.Option.{option_map_or}
 use Prim.Native.Nat.{ℕ, ◌+◌, ◌*◌, ◌%◌, ◌≤◌, ◌<◌}
 use native.Mathlib.Omega.{arith}
 use native.Mathlib.Nat.{mod-add-mod, dvd_of_mod-eq-zero, mod-mod_of_dvd}
 use lib.Dec.{leb, eqb}
 use lib.ListN.{length}
 use borrow.Author.Tests.{not-false, le-leb, lt-leb, eq-eqb, ne_eqb}
-use Rattle.model.specs.Choose.{given}
 use Rattle.model.specs.Quantities.{within, is_arena, is_base, is_table, is_alignment, quotas_in_range, Config, in_range}
 use Rattle.model.specs.Allocation.{needed, State, serves, lowest_start, fit, put, offset, refit, resize, bytes, changed, without}
 use Rattle.model.specs.Arena.{zeroed, moved, with_guard}
@@ -91,7 +91,7 @@ module _ (c : Config) (b : ℕ) (e : c.base % 4096 ≡ b % 4096) (v : Bool) (h :
 
   -- answers the same,
   pub alloc_alike : alloc v c h arena o n a ≡ alloc v (at_base b c) h arena o n a
-  alloc_alike = allocates (λ f. Ok (given f 0 offset)) Err
+  alloc_alike = allocates (λ f. Ok (option_map_or offset f 0)) Err
 
   -- leaves the same state,
   pub after_alloc_alike : after_alloc v c h arena o n a ≡ after_alloc v (at_base b c) h arena o n a
@@ -99,11 +99,11 @@ module _ (c : Config) (b : ℕ) (e : c.base % 4096 ≡ b % 4096) (v : Bool) (h :
 
   -- is granted the same granules
   pub granted_alloc_alike : granted_alloc v c h arena o n a ≡ granted_alloc v (at_base b c) h arena o n a
-  granted_alloc_alike = allocates (λ f. given f 0 (λ (d : Segment). d.length)) (λ r. 0)
+  granted_alloc_alike = allocates (λ f. option_map_or (λ (d : Segment). d.length) f 0) (λ r. 0)
 
   -- and leaves the same arena.
   pub arena_alloc_alike : arena_after_alloc v c h arena o n a ≡ arena_after_alloc v (at_base b c) h arena o n a
-  arena_alloc_alike = allocates (λ f. given f arena (λ d. with_guard c d arena)) (λ r. arena)
+  arena_alloc_alike = allocates (λ f. option_map_or (λ d. with_guard c d arena) f arena) (λ r. arena)
 
 -- Whatever the base, a free:
 module _ (c : Config) (b : ℕ) (v : Bool) (h : State) (arena : List ℕ) (o x : ℕ) where
@@ -177,7 +177,7 @@ module _ (c : Config) (b : ℕ) (e : c.base % 16 ≡ b % 16) where
 
     -- answers the same,
     pub realloc_alike : realloc v c h arena o x n ≡ realloc v (at_base b c) h arena o x n
-    realloc_alike = resizes (λ f. given f (Ok (resized.Freed (bytes_at h x))) (λ d. Ok (resized.At (offset d)))) Err
+    realloc_alike = resizes (λ f. option_map_or (λ d. Ok (resized.At (offset d))) f (Ok (resized.Freed (bytes_at h x)))) Err
 
     -- leaves the same state,
     pub after_realloc_alike : after_realloc v c h arena o x n ≡ after_realloc v (at_base b c) h arena o x n
@@ -185,7 +185,7 @@ module _ (c : Config) (b : ℕ) (e : c.base % 16 ≡ b % 16) where
 
     -- is granted the same granules,
     pub granted_realloc_alike : granted_realloc v c h arena o x n ≡ granted_realloc v (at_base b c) h arena o x n
-    granted_realloc_alike = resizes (λ f. given f 0 (λ (d : Segment). d.length)) (λ r. 0)
+    granted_realloc_alike = resizes (λ f. option_map_or (λ (d : Segment). d.length) f 0) (λ r. 0)
 
     -- returns the same granules
     pub returned_realloc_alike : returned_realloc v c h arena o x n ≡ returned_realloc v (at_base b c) h arena o x n
@@ -194,7 +194,7 @@ module _ (c : Config) (b : ℕ) (e : c.base % 16 ≡ b % 16) where
     -- and leaves the same arena.
     pub arena_realloc_alike : arena_after_realloc v c h arena o x n ≡ arena_after_realloc v (at_base b c) h arena o x n
     arena_realloc_alike =
-        resizes (λ f. given f (zeroed x (bytes_at h x) arena) (λ d. with_guard c d (moved x (bytes_at h x) (offset d) (bytes d) (without_guard_at c h x arena)))) (λ r. arena)
+        resizes (λ f. option_map_or (λ d. with_guard c d (moved x (bytes_at h x) (offset d) (bytes d) (without_guard_at c h x arena))) f (zeroed x (bytes_at h x) arena)) (λ r. arena)
 
 -- Of an arena whose length is allowed a making is refused with 18 exactly if the base is not a multiple of 16 or the arena ends past 4,294,967,296.
 pub eighteen_exactly : (arena words : List ℕ) (p : Plan) → is_arena (length arena) ≡ true

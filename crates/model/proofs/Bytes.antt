@@ -8,7 +8,7 @@ use native.Mathlib.Omega.{arith}
 use lib.Dec.{leb, ltb}
 use lib.ListN.{length, get_or, take, drop, length-append, length-drop, length-replicate, get_or-replicate, get_or-append}
 use lib.Seq.{length-take-le, get_or-append-add, get_or-take, get_or-drop, ext_get_or}
-use Rattle.model.specs.Choose.{choose, both}
+use Rattle.std.specs.Prelude.{if◌then◌else◌, ◌&&◌}
 use Rattle.model.specs.Arena.{written, zeroed, slice, disjoint}
 use Rattle.model.proofs.Choosing.{split, tests, parts, one_holds}
 
@@ -46,7 +46,7 @@ module _ (x k : ℕ) (part arena : List ℕ) (l : length part ≡ k) (h : x + k 
       ∙ ap (λ (n : ℕ). get_or arena n 0) (omega (arith, l))
 
   -- So a byte is the part's if it is in its place, and else as it was.
-  pub written_each : (i : ℕ) → get_or (written x part arena) i 0 ≡ choose (both (leb x i) (ltb i (x + k))) (get_or part (i - x) 0) (get_or arena i 0)
+  pub written_each : (i : ℕ) → get_or (written x part arena) i 0 ≡ (if leb x i && ltb i (x + k) then get_or part (i - x) 0 else get_or arena i 0)
   written_each i =
       split (leb x i)
       (λ p. split (ltb i (x + k)) (λ q. rw (p, q) (byte_in i (i - x) (omega tests) (omega tests))) (λ q. rw (p, q) (byte_after i (omega tests))))
@@ -72,7 +72,7 @@ module _ (x k : ℕ) (arena : List ℕ) (h : x + k ≤ length arena) where
   zeroed_after i p = byte_after x k _ arena (length-replicate k _) h i p
 
   -- So a byte is zero if it is one of the k, and else as it was.
-  pub zeroed_each : (i : ℕ) → get_or (zeroed x k arena) i 0 ≡ choose (both (leb x i) (ltb i (x + k))) 0 (get_or arena i 0)
+  pub zeroed_each : (i : ℕ) → get_or (zeroed x k arena) i 0 ≡ (if leb x i && ltb i (x + k) then 0 else get_or arena i 0)
   zeroed_each i =
       split (leb x i)
       (λ p. split (ltb i (x + k)) (λ q. rw (p, q) (zeroed_in i (omega tests) (omega tests))) (λ q. rw (p, q) (zeroed_after i (omega tests))))
@@ -103,8 +103,8 @@ written_apart x k y m p q arena lp lq h g d =
       written_each y m q (written x p arena) lq (omega arith) i,
       written_each x k p arena lp h i,
     )
-    (split (both (leb x i) (ltb i (x + k)))
-    (λ a. split (both (leb y i) (ltb i (y + m)))
+    (split (leb x i && ltb i (x + k))
+    (λ a. split (leb y i && ltb i (y + m))
     (λ b. let a₁ : leb x i ≡ true = search parts in
     let a₂ : ltb i (x + k) ≡ true = search parts in
     let b₁ : leb y i ≡ true = search parts in

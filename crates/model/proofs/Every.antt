@@ -7,26 +7,26 @@ use Prim.Native.Nat.{ℕ, suc, ◌+◌, ◌≤◌, ◌<◌}
 use native.Mathlib.Numerals.{add-one}
 use lib.ListN.{length, get_or, drop, drop_of_length-le}
 use lib.Seq.{drop-cons}
-use Rattle.model.specs.Choose.{every}
+use Rattle.std.specs.List.{list_all}
 use Rattle.model.specs.Arena.{slice}
 
 module _ (p : ℕ → Bool) (xs : List ℕ) (i : ℕ) where
   -- It holds of element i: those after it decide.
-  pub every_more : i < length xs → p (get_or xs i 0) ≡ true → every p (drop i xs) ≡ every p (drop (i + 1) xs)
+  pub every_more : i < length xs → p (get_or xs i 0) ≡ true → list_all p (drop i xs) ≡ list_all p (drop (i + 1) xs)
   every_more h q = rw (add-one i, drop-cons xs i 0 h, q)
 
   -- It does not hold of element i.
-  pub every_not : i < length xs → p (get_or xs i 0) ≡ false → every p (drop i xs) ≡ false
+  pub every_not : i < length xs → p (get_or xs i 0) ≡ false → list_all p (drop i xs) ≡ false
   every_not h q = rw (drop-cons xs i 0 h, q)
 
   -- There is no element i.
-  pub every_none : length xs ≤ i → every p (drop i xs) ≡ true
+  pub every_none : length xs ≤ i → list_all p (drop i xs) ≡ true
   every_none h = rw (drop_of_length-le xs h)
 
   -- The same of a run that begins with element i: it holds of that element.
-  pub run_more : (k : ℕ) → i < length xs → p (get_or xs i 0) ≡ true → every p (slice i (suc k) xs) ≡ every p (slice (i + 1) k xs)
+  pub run_more : (k : ℕ) → i < length xs → p (get_or xs i 0) ≡ true → list_all p (slice i (suc k) xs) ≡ list_all p (slice (i + 1) k xs)
   run_more k h q = rw (add-one i, drop-cons xs i 0 h, q)
 
   -- It does not hold of that element.
-  pub run_not : (k : ℕ) → i < length xs → p (get_or xs i 0) ≡ false → every p (slice i (suc k) xs) ≡ false
+  pub run_not : (k : ℕ) → i < length xs → p (get_or xs i 0) ≡ false → list_all p (slice i (suc k) xs) ≡ false
   run_not k h q = rw (drop-cons xs i 0 h, q)

@@ -5,7 +5,7 @@ use mathlib.Core.Bool.{Bool, true, false}
 use mathlib.Core.List.{List, [], ◌∷◌, ◌++◌, map}
 use Prim.Native.Nat.{ℕ, zero, suc, ◌+◌, max}
 use lib.ListN.{replicate, take, drop}
-use Rattle.model.specs.Choose.{given}
+use Rattle.std.specs.Option.{option_map_or}
 use Rattle.model.specs.Quantities.{Config, in_range}
 use Rattle.model.specs.Allocation.{State, needed, granules_of}
 use Rattle.model.specs.SegmentMap.{map_of}
@@ -671,7 +671,7 @@ size (sized h o x number n k) = (size_numbered (block_size true (config h) (stat
 
 -- What is made of a proper allocation's order.
 abbrev asked : Proper → ℕ × ℕ
-asked (proper h o n a number) = (given (first_reason (proper_order (config h) (arena_of h) o n a)) 0 number_of, number)
+asked (proper h o n a number) = (option_map_or number_of (first_reason (proper_order (config h) (arena_of h) o n a)) 0, number)
 
 -- What the totals come to.
 abbrev summed : Heap × List ℕ → Numbered × Numbered

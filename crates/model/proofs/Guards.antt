@@ -3,14 +3,15 @@
 use mathlib.Core.Path.{◌≡◌, refl, sym, ap, ◌∙◌, subst}
 use mathlib.Core.Bool.{Bool, true, false}
 use mathlib.Core.List.{List, [], ◌∷◌, ◌++◌, append-nil}
-use Rattle.std.specs.Prelude.{None, Some}
+use Rattle.std.specs.Prelude.{None, Some, if◌then◌else◌}
+use Rattle.std.specs.List.{list_all}
+use Rattle.std.specs.Option.{option_map_or}
 use Prim.Native.Nat.{ℕ, zero, suc, ◌+◌, ◌-◌, ◌*◌, ◌≤◌, ◌<◌}
 use native.Mathlib.Omega.{arith}
 use native.Mathlib.Nat.{add-zero}
 use lib.Dec.{leb, ltb, eqb}
 use lib.ListN.{length, get_or, take, drop, replicate, length-take, length-drop, length-replicate, get_or-replicate, take-append-drop}
 use borrow.Author.Tests.{not-false, eq-eqb, le-leb, lt-leb, lt-ltb, le-ltb}
-use Rattle.model.specs.Choose.{choose, every, given}
 use Rattle.model.specs.Quantities.{Config}
 use Rattle.model.specs.Allocation.{State, needed, block, fit, offset, block_at, resize, bytes}
 use Rattle.model.specs.Arena.{slice, zeroed, moved, guard_offset, guard_bytes, in_guard, guard_filled, with_guard, is_broken}
@@ -85,7 +86,7 @@ module _ (c : Config) (z : c.guards ≡ 0) where
   pub arena_realloc_unguarded : (v : Bool) (h : State) (arena : List ℕ) (o x n : ℕ)
       → arena_after_realloc v c h arena o x n
       ≡ unless (realloc_order v c h arena o x n)
-      (given (resize c h.blocks o x n) (zeroed x (bytes_at h x) arena) (λ b. moved x (bytes_at h x) (offset b) (bytes b) arena)) (λ r. arena)
+      (option_map_or (λ b. moved x (bytes_at h x) (offset b) (bytes b) arena) (resize c h.blocks o x n) (zeroed x (bytes_at h x) arena)) (λ r. arena)
   arena_realloc_unguarded v h arena o x n =
       let bare : without_guard_at c h x arena ≡ arena = split_option (block_at x h.blocks) (λ q. rw q) (λ b q. rw q (no_guard b 0 arena)) in
       split_option (first_reason (realloc_order v c h arena o x n))
@@ -93,11 +94,11 @@ module _ (c : Config) (z : c.guards ≡ 0) where
       (λ r q. rw q)
 
 -- a list of which each element is v, and an element of such a list
-all_at : (v : ℕ) (xs : List ℕ) → ((i : ℕ) → i < length xs → get_or xs i 0 ≡ v) → every (eqb v) xs ≡ true
+all_at : (v : ℕ) (xs : List ℕ) → ((i : ℕ) → i < length xs → get_or xs i 0 ≡ v) → list_all (eqb v) xs ≡ true
 all_at v [] h = refl
 all_at v (x ∷ xs) h = rw (eq-eqb v x (sym (h 0 (omega arith)))) (all_at v xs (λ i l. h (suc i) (omega arith)))
 
-at_all : (v : ℕ) (xs : List ℕ) (i : ℕ) → i < length xs → every (eqb v) xs ≡ true → get_or xs i 0 ≡ v
+at_all : (v : ℕ) (xs : List ℕ) (i : ℕ) → i < length xs → list_all (eqb v) xs ≡ true → get_or xs i 0 ≡ v
 at_all v [] i l e = absurd (omega arith)
 at_all v (x ∷ xs) zero l e = omega (tests, every_head (eqb v) x xs e)
 at_all v (x ∷ xs) (suc i) l e = at_all v xs i (omega arith) (every_tail (eqb v) x xs e)
@@ -111,7 +112,7 @@ module _ (c : Config) (b : Segment) (arena : List ℕ) where
       let j : ℕ = i - guard_offset b in
       let l : j < length s = simp (length-take, length-drop) (omega arith) in
       ap (λ (k : ℕ). get_or arena k 0) (omega arith) ∙ sym (byte_slice (guard_offset b) (guard_bytes c) arena j (omega arith))
-      ∙ at_all 0x77 s j l (not-false (every (eqb 0x77) s) e)
+      ∙ at_all 0x77 s j l (not-false (list_all (eqb 0x77) s) e)
 
   -- so a byte of it in the arena that is not 0x77 makes it broken.
   pub broken_byte : (i : ℕ) → guard_offset b ≤ i → i < guard_offset b + guard_bytes c → i < length arena → ¬ (get_or arena i 0 ≡ 0x77) → is_broken c arena b ≡ true
@@ -131,7 +132,7 @@ module _ (c : Config) (b : Segment) (v : ℕ) (arena : List ℕ) (fits : guard_o
   length_filled = length_written (guard_offset b) (guard_bytes c) (replicate (guard_bytes c) v) arena (length-replicate (guard_bytes c) v) fits
 
   -- A byte is v if it is in the guard, and else as it was.
-  pub filled_each : (i : ℕ) → get_or (guard_filled c b v arena) i 0 ≡ choose (in_guard c i b) v (get_or arena i 0)
+  pub filled_each : (i : ℕ) → get_or (guard_filled c b v arena) i 0 ≡ (if in_guard c i b then v else get_or arena i 0)
   filled_each i =
       written_each (guard_offset b) (guard_bytes c) (replicate (guard_bytes c) v) arena (length-replicate (guard_bytes c) v) fits i
       ∙ split (in_guard c i b)
@@ -187,7 +188,7 @@ module _ (v : Bool) (c : Config) (h : State) (arena : List ℕ) (o n a : ℕ) (e
   alloc_length = by_guards (λ z. ap length (arena_alloc_blind c z v h arena o n a)) (λ fits. rw after (length_filled c b 0x77 arena fits))
 
   -- a byte is 0x77 if it is in the guard of b, and else as it was,
-  pub alloc_each : (i : ℕ) → get_or (arena_after_alloc v c h arena o n a) i 0 ≡ choose (in_guard c i b) 0x77 (get_or arena i 0)
+  pub alloc_each : (i : ℕ) → get_or (arena_after_alloc v c h arena o n a) i 0 ≡ (if in_guard c i b then 0x77 else get_or arena i 0)
   alloc_each i =
       by_guards (λ z. ap (λ (r : List ℕ). get_or r i 0) (arena_alloc_blind c z v h arena o n a) ∙ rw (no_guard_byte c z b i)) (λ fits. rw after (filled_each c b 0x77 arena fits i))
 

@@ -4,13 +4,14 @@ use mathlib.Core.Path.{◌≡◌, refl, sym, ap, ◌∙◌, subst}
 use mathlib.Core.Bool.{Bool, true, false, not}
 use mathlib.Core.List.{List, [], ◌∷◌, ◌++◌}
 use mathlib.Core.Logic.{◌↔◌, ◌⊎◌, inl, inr, ⊎_elim}
-use Rattle.std.specs.Prelude.{None, Some, Result, Ok, Err}
+use Rattle.std.specs.Prelude.{None, Some, Result, Ok, Err, if◌then◌else◌}
+use Rattle.std.specs.List.{list_all}
+use Rattle.std.specs.Option.{option_map_or}
 use Prim.Native.Nat.{ℕ, suc, ◌+◌, ◌/◌, ◌≤◌, ◌<◌}
 use native.Mathlib.Omega.{arith}
 use lib.Dec.{leb, ltb, eqb}
 use lib.ListN.{length, get_or, length-take, length-drop}
 use borrow.Author.Tests.{not-false, not-true, eqb-true, eq-eqb, ne_eqb, le-leb, lt-ltb}
-use Rattle.model.specs.Choose.{choose, every, given}
 use Rattle.model.specs.Quantities.{is_owner, Config}
 use Rattle.model.specs.Allocation.{needed, State, clear_of, block, fit, insert, offset, block_at, has_granule, without, resize, bytes}
 use Rattle.model.specs.Arena.{has_recorded_length, zeroed, slice, guard_offset, guard_bytes, in_guard, is_broken}
@@ -271,7 +272,7 @@ abbrev pub is_other : Reason Refusal → Bool
 is_other r = not (eqb (number_of r.1) 19)
 
 -- If 19 is given, none of the reasons that stand before it applies;
-before_19 : (rs ts : Order Refusal) → every is_other rs ≡ true → (why : Refusal) → first_reason (rs ++ ts) ≡ Some why → number_of why ≡ 19
+before_19 : (rs ts : Order Refusal) → list_all is_other rs ≡ true → (why : Refusal) → first_reason (rs ++ ts) ≡ Some why → number_of why ≡ 19
     → NoReason rs × (first_reason ts ≡ Some why)
 before_19 [] ts others why e n = (tt, e)
 before_19 (r ∷ rs) ts others why e n =
@@ -284,7 +285,7 @@ before_19 (r ∷ rs) ts others why e n =
     (λ q. let m : NoReason rs × (first_reason ts ≡ Some why) = before_19 rs ts (every_tail is_other r rs others) why (rw q at e) n in ((q, m.0), m.1))
 
 -- so an order in which it does not stand never gives it.
-pub never_19 : (rs : Order Refusal) → every is_other rs ≡ true → (why : Refusal) → first_reason rs ≡ Some why → ¬ (number_of why ≡ 19)
+pub never_19 : (rs : Order Refusal) → list_all is_other rs ≡ true → (why : Refusal) → first_reason rs ≡ Some why → ¬ (number_of why ≡ 19)
 never_19 rs others why e n =
     let f : None ≡ Some why = (before_19 rs [] others why (first_stays rs [] why e) n).1 in let z : ◌≡◌ {A = ℕ} 0 1 = cc in omega arith
 
@@ -297,7 +298,7 @@ reason_19 order a refused number f g e =
     (λ why q. (why, q, sym (g why) ∙ (rw q at e)))
 
 -- a list of which not each element is v has an element that is not
-not_at : (v : ℕ) (xs : List ℕ) → every (eqb v) xs ≡ false → (i : ℕ) × (i < length xs) × (¬ (get_or xs i 0 ≡ v))
+not_at : (v : ℕ) (xs : List ℕ) → list_all (eqb v) xs ≡ false → (i : ℕ) × (i < length xs) × (¬ (get_or xs i 0 ≡ v))
 not_at v [] e = absurd (clash true refl e)
 not_at v (x ∷ xs) e =
     split (eqb v x)
@@ -309,7 +310,7 @@ pub differing_byte : (c : Config) (arena : List ℕ) (b : Segment) → is_broken
     → (i : ℕ) × (guard_offset b ≤ i) × (i < guard_offset b + guard_bytes c) × (¬ (get_or arena i 0 ≡ 0x77))
 differing_byte c arena b e =
     let s : List ℕ = slice (guard_offset b) (guard_bytes c) arena in
-    let r : (j : ℕ) × (j < length s) × (¬ (get_or s j 0 ≡ 0x77)) = not_at 0x77 s (not-true (every (eqb 0x77) s) e) in
+    let r : (j : ℕ) × (j < length s) × (¬ (get_or s j 0 ≡ 0x77)) = not_at 0x77 s (not-true (list_all (eqb 0x77) s) e) in
     let l : r.0 < guard_bytes c = let q = simp (length-take, length-drop) at r.1 in omega arith in
     (guard_offset b + r.0, omega arith, omega (arith, l), λ z. r.2 (byte_slice (guard_offset b) (guard_bytes c) arena r.0 l ∙ z))
 
@@ -371,8 +372,8 @@ module _ (v : Bool) (c : Config) (h : State) (arena : List ℕ) (o x : ℕ) wher
   pub realloc_19 : (n : ℕ) (why : Refusal) → first_reason (realloc_order v c h arena o x n) ≡ Some why → number_of why ≡ 19 → FoundBroken
   unfolding realloc_order
   realloc_19 n why e m =
-      let rest : Order Refusal = choose (eqb n 0) [] (new_length_order c h o x n) in
-      let others : every is_other rest ≡ true = split (eqb n 0) (λ q. rw q) (λ q. rw q) in
+      let rest : Order Refusal = if eqb n 0 then [] else new_length_order c h o x n in
+      let others : list_all is_other rest ≡ true = split (eqb n 0) (λ q. rw q) (λ q. rw q) in
       split_option (first_reason (free_order v c h arena o x))
       (λ q. absurd (never_19 rest others why (sym (first_then (free_order v c h arena o x) rest q) ∙ e) m))
       (λ r q. let s : Some r ≡ Some why = sym (first_stays (free_order v c h arena o x) rest r q) ∙ e in
@@ -416,7 +417,7 @@ module _ (v : Bool) (c : Config) (h : State) where
   -- and no resize by an owner whose guards are all whole (in an arena of another length they need not be),
   pub realloc_not_19 : (arena : List ℕ) (o x n : ℕ) → (has_recorded_length c arena ≡ true → OwnWhole c o h arena) → ¬ ((resized_numbered (realloc v c h arena o x n)).0 ≡ 19)
   realloc_not_19 arena o x n own e =
-      let value : Result Resized Refusal = given (resize c h.blocks o x n) (Ok (resized.Freed (bytes_at h x))) (λ b. Ok (resized.At (offset b))) in
+      let value : Result Resized Refusal = option_map_or (λ b. Ok (resized.At (offset b))) (resize c h.blocks o x n) (Ok (resized.Freed (bytes_at h x))) in
       let zeroth : (resized_numbered value).0 ≡ 0 = split_option (resize c h.blocks o x n) (λ p. rw p) (λ b p. rw p) in
       let r = reason_19 (realloc_order v c h arena o x n) value Err (λ (f : Result Resized Refusal). (resized_numbered f).0) zeroth (λ why. refl) e in
       let f : FoundBroken v c h arena o x = realloc_19 v c h arena o x n r.0 r.1 r.2 in

@@ -9,7 +9,7 @@ use lib.Dec.{leb, ltb}
 use lib.ListN.{length, get_or, replicate, length-replicate}
 use lib.Seq.{ext_get_or, paste-zero}
 use borrow.Author.Tests.{le-leb, lt-leb, lt-ltb}
-use Rattle.model.specs.Choose.{choose, both}
+use Rattle.std.specs.Prelude.{if◌then◌else◌, ◌&&◌}
 use Rattle.model.specs.Arena.{written, zeroed, slice, disjoint, moved}
 use Rattle.model.proofs.Choosing.{split, tests, parts}
 use Rattle.model.proofs.Bytes.{length_written, written_each, length_zeroed, zeroed_each, length_slice, byte_slice, written_apart}
@@ -28,11 +28,11 @@ module _ (x k y m : ℕ) (arena : List ℕ) (from : x + k ≤ length arena) (to 
 
   -- A byte is one that came along, zero if it is another of the k, and else as it was.
   pub moved_each : (i : ℕ) → get_or (moved x k y m arena) i 0
-      ≡ choose (both (leb y i) (ltb i (y + min k m))) (get_or arena (x + (i - y)) 0) (choose (both (leb x i) (ltb i (x + k))) 0 (get_or arena i 0))
+      ≡ (if leb y i && ltb i (y + min k m) then get_or arena (x + (i - y)) 0 else if leb x i && ltb i (x + k) then 0 else get_or arena i 0)
   moved_each i =
       written_each y (min k m) (slice x (min k m) arena) (zeroed x k arena) part_long fits i
       ∙ rw (zeroed_each x k arena from i)
-      (split (both (leb y i) (ltb i (y + min k m)))
+      (split (leb y i && ltb i (y + min k m))
       (λ q. let low : leb y i ≡ true = search parts in
       let high : ltb i (y + min k m) ≡ true = search parts in
       rw q (byte_slice x (min k m) arena (i - y) (omega tests)))
@@ -45,8 +45,8 @@ module _ (x k y m : ℕ) (arena : List ℕ) (from : x + k ≤ length arena) (to 
       moved_each (y + j) ∙ rw (le-leb y (y + j) (omega arith), lt-ltb (y + j) (y + min k m) (omega arith), z)
 
   -- and each other byte is zero if it is one of the k, and else as it was.
-  pub moved_out : (i : ℕ) → both (leb y i) (ltb i (y + min k m)) ≡ false
-      → get_or (moved x k y m arena) i 0 ≡ choose (both (leb x i) (ltb i (x + k))) 0 (get_or arena i 0)
+  pub moved_out : (i : ℕ) → (leb y i && ltb i (y + min k m)) ≡ false
+      → get_or (moved x k y m arena) i 0 ≡ (if leb x i && ltb i (x + k) then 0 else get_or arena i 0)
   moved_out i e = moved_each i ∙ rw e
 
 -- The place of k bytes zeroed and its first m put back: the others are zeroed.

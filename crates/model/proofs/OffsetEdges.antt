@@ -6,7 +6,7 @@ use mathlib.Core.List.{List, [], ◌∷◌}
 use Prim.Native.Nat.{ℕ}
 use lib.Dec.{eqb}
 use lib.ListN.{replicate}
-use Rattle.model.specs.Choose.{every}
+use Rattle.std.specs.List.{list_all}
 use Rattle.model.specs.Quantities.{Config}
 use Rattle.model.specs.Allocation.{State, block}
 use Rattle.model.specs.Orders.{block_order}
@@ -56,5 +56,5 @@ abbrev pub holds : Edge → Bool
 holds (edge o x n) = eqb (refusal_number (block_order small held o x)) n
 
 -- Each does.
-pub each : every holds edges ≡ true
+pub each : list_all holds edges ≡ true
 each = refl

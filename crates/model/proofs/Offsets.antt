@@ -3,12 +3,12 @@
 use mathlib.Core.Path.{◌≡◌, refl, sym, ap, ◌∙◌, subst}
 use mathlib.Core.Bool.{Bool, true, false, not}
 use mathlib.Core.List.{List, [], ◌∷◌, Memᴰ}
-use Rattle.std.specs.Prelude.{None, Some}
+use Rattle.std.specs.Prelude.{None, Some, is_none, filter}
+use Rattle.std.specs.List.{list_all}
 use Prim.Native.Nat.{ℕ, ◌+◌, ◌/◌, ◌%◌, ◌≤◌, ◌<◌}
 use native.Mathlib.Omega.{arith}
 use lib.Dec.{leb, ltb, eqb}
 use borrow.Author.Tests.{lt-ltb, le-leb, lt-leb, le-ltb}
-use Rattle.model.specs.Choose.{every, only, is_none}
 use Rattle.model.specs.Quantities.{Config}
 use Rattle.model.specs.Allocation.{clear_of, insert, offset, block_at, has_granule, block_over, without}
 use Rattle.model.proofs.Choosing.{split, split_option, clash, tests, ne_of_eqb, first_some}
@@ -62,12 +62,12 @@ over_insert i b (x ∷ xs) h e =
     (λ q. rw (q, h, p) (rw p at e))
     (λ q. rw (q, p) (over_insert i b xs h (rw p at e))))
 
-pub over_only : (i : ℕ) (p : Segment → Bool) (bs : List Segment) → block_over i bs ≡ None → block_over i (only p bs) ≡ None
+pub over_only : (i : ℕ) (p : Segment → Bool) (bs : List Segment) → block_over i bs ≡ None → block_over i (filter p bs) ≡ None
 over_only i p [] e = refl
 over_only i p (b ∷ bs) e =
     split (has_granule i b)
     (λ q. absurd (not_some b (rw q at e)))
-    (λ q. let r : block_over i (only p bs) ≡ None = over_only i p bs (rw q at e) in split (p b) (λ t. rw (t, q) r) (λ t. rw t r))
+    (λ q. let r : block_over i (filter p bs) ≡ None = over_only i p bs (rw q at e) in split (p b) (λ t. rw (t, q) r) (λ t. rw t r))
 
 -- the block that begins at x, among those from granule s on
 pub record Begins (c : Config) (s x : ℕ) (bs : List Segment) (b : Segment) : Type 0 where
@@ -153,7 +153,7 @@ module _ (c : Config) where
       rw (granule_after i x (omega (arith, r.from, granule_in i b h))) (over_live b (x.start + x.length) i ys o.2 m h)
 
   -- No live block has granule i exactly if one granule at i is clear of all of them.
-  pub over_clear : (s i : ℕ) (bs : List Segment) → Ordered c s bs → is_none (block_over i bs) ≡ every (clear_of i 1) bs
+  pub over_clear : (s i : ℕ) (bs : List Segment) → Ordered c s bs → is_none (block_over i bs) ≡ list_all (clear_of i 1) bs
   over_clear s i [] o = refl
   over_clear s i (b ∷ bs) o =
       split (leb b.start i)

@@ -8,7 +8,7 @@ use native.Mathlib.Omega.{arith}
 use lib.Dec.{leb, eqb}
 use lib.ListN.{length, get_or}
 use borrow.Author.Tests.{leb-true, le-leb, eqb-true}
-use Rattle.model.specs.Choose.{every}
+use Rattle.std.specs.List.{list_all}
 use Rattle.model.specs.Quantities.{within, is_arena, is_base, is_table, owners, Config, in_range, quota}
 use Rattle.model.proofs.Choosing.{split, tests, both_left, both_right, both_true, parts, every_head, every_tail}
 
@@ -27,22 +27,22 @@ abbrev up_from : ℕ → ℕ → List ℕ
 up_from i zero = []
 up_from i (suc n) = i ∷ up_from (suc i) n
 
-at_from : (p : ℕ → Bool) (i n o : ℕ) → every p (up_from i n) ≡ true → i ≤ o → o < i + n → p o ≡ true
+at_from : (p : ℕ → Bool) (i n o : ℕ) → list_all p (up_from i n) ≡ true → i ≤ o → o < i + n → p o ≡ true
 at_from p i zero o e h k = absurd (omega arith)
 at_from p i (suc n) o e h k =
     split (eqb i o)
     (λ q. rw (← eqb-true i o q) (every_head p i (up_from (suc i) n) e))
     (λ q. at_from p (suc i) n o (every_tail p i (up_from (suc i) n) e) (omega tests) (omega arith))
 
-from_all : (p : ℕ → Bool) (i n : ℕ) → ((o : ℕ) → i ≤ o → o < i + n → p o ≡ true) → every p (up_from i n) ≡ true
+from_all : (p : ℕ → Bool) (i n : ℕ) → ((o : ℕ) → i ≤ o → o < i + n → p o ≡ true) → list_all p (up_from i n) ≡ true
 from_all p i zero h = refl
 from_all p i (suc n) h = both_true _ _ (h i (omega arith) (omega arith)) (from_all p (suc i) n (λ o a b. h o (omega arith) (omega arith)))
 
 -- what holds of all owners holds of each, and the other way round
-pub each_owner : (p : ℕ → Bool) → every p owners ≡ true → (o : ℕ) → 1 ≤ o → o ≤ 8 → p o ≡ true
+pub each_owner : (p : ℕ → Bool) → list_all p owners ≡ true → (o : ℕ) → 1 ≤ o → o ≤ 8 → p o ≡ true
 each_owner p e o h k = at_from p 1 8 o e h (omega arith)
 
-pub all_owners : (p : ℕ → Bool) → ((o : ℕ) → 1 ≤ o → o ≤ 8 → p o ≡ true) → every p owners ≡ true
+pub all_owners : (p : ℕ → Bool) → ((o : ℕ) → 1 ≤ o → o ≤ 8 → p o ≡ true) → list_all p owners ≡ true
 all_owners p h = from_all p 1 8 (λ o a b. h o a (omega arith))
 
 -- an owner's quota is at its place

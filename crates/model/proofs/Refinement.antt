@@ -3,11 +3,12 @@
 use mathlib.Core.Path.{◌≡◌, refl, sym, ◌∙◌}
 use mathlib.Core.Bool.{Bool, true, false}
 use mathlib.Core.List.{List, [], ◌∷◌, ◌++◌}
-use Rattle.std.specs.Prelude.{None, Some}
+use Rattle.std.specs.Prelude.{None, Some, is_none}
+use Rattle.std.specs.Option.{option_map_or}
 use Prim.Native.Nat.{ℕ, ◌*◌, ◌/◌, ◌%◌}
 use lib.Dec.{leb, eqb}
 use borrow.Author.Tests.{not-false, lt-ltb}
-use Rattle.model.specs.Choose.{given, is_none, is_among}
+use Rattle.model.specs.Choose.{is_among}
 use Rattle.model.specs.Quantities.{Config}
 use Rattle.model.specs.Allocation.{State, block_at, block_over}
 use Rattle.model.specs.Reasons.{Reason, invalid_heap, other_arena, bad_owner, other_owner, broken_guard}
@@ -51,7 +52,7 @@ module _ (is_valid : Bool) (c : Config) (h : State) where
 
 -- By an order a call is refused with this number, 0 if it is not refused.
 abbrev pub refusal_number : Order Refusal → ℕ
-refusal_number order = given (first_reason order) 0 number_of
+refusal_number order = option_map_or number_of (first_reason order) 0
 
 -- The number is one of the four into which 9 is told apart.
 abbrev pub is_of_the_four : ℕ → Bool

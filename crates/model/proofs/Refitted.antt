@@ -3,12 +3,13 @@
 use mathlib.Core.Path.{◌≡◌, refl, sym, ap, ◌∙◌, subst}
 use mathlib.Core.Bool.{Bool, true, false, not}
 use mathlib.Core.List.{List, [], ◌++◌}
-use Rattle.std.specs.Prelude.{None, Some}
+use Rattle.std.specs.Prelude.{None, Some, is_none, if◌then◌else◌}
+use Rattle.std.specs.List.{list_all}
 use Prim.Native.Nat.{ℕ, ◌+◌, ◌/◌, ◌≤◌}
 use native.Mathlib.Omega.{arith}
 use lib.Dec.{ltb, eqb}
 use borrow.Author.Tests.{leb-true, ne_eqb}
-use Rattle.model.specs.Choose.{choose, every, total, is_none}
+use Rattle.model.specs.Choose.{total}
 use Rattle.model.specs.Quantities.{Config, quota}
 use Rattle.model.specs.Allocation.{needed, charge, State, clear_of, lowest_start, block, insert, offset, without, stays, refit, resize, owned_by}
 use Rattle.model.specs.SegmentMap.{rows_of}
@@ -26,7 +27,7 @@ module _ (c : Config) (h : State) (o x n : ℕ) where
     pub start : ℕ
     pub fits : refit c h.blocks o x n ≡ Some (block c o n start)
     pub inside : start + needed c n ≤ c.granules
-    pub clear : every (clear_of start (needed c n)) (without x h.blocks) ≡ true
+    pub clear : list_all (clear_of start (needed c n)) (without x h.blocks) ≡ true
 
   -- There is such a place unless 7 applies,
   pub refitted : is_none (refit c h.blocks o x n) ≡ false → Refit
@@ -45,11 +46,11 @@ module _ (c : Config) (h : State) (o x n : ℕ) where
 
   -- and the block that is left has it.
   pub refitted_at : (s : ℕ) → refit c h.blocks o x n ≡ Some (block c o n s)
-      → (s + needed c n ≤ c.granules) × (every (clear_of s (needed c n)) (without x h.blocks) ≡ true)
+      → (s + needed c n ≤ c.granules) × (list_all (clear_of s (needed c n)) (without x h.blocks) ≡ true)
   refitted_at s e =
       let r : Refit = refitted (rw e) in
       let z : block c o n r.start ≡ block c o n s = cc in
-      subst (λ (b : Segment). (b.start + needed c n ≤ c.granules) × (every (clear_of b.start (needed c n)) (without x h.blocks) ≡ true)) z (r.inside, r.clear)
+      subst (λ (b : Segment). (b.start + needed c n ≤ c.granules) × (list_all (clear_of b.start (needed c n)) (without x h.blocks) ≡ true)) z (r.inside, r.clear)
 
 -- A resize that leaves a block is not to size 0,
 pub resize_size : (c : Config) (bs : List Segment) (o x n : ℕ) (b : Segment) → resize c bs o x n ≡ Some b → 1 ≤ n
@@ -78,7 +79,7 @@ resize_requested c bs o x n b e = ap (λ (d : Segment). d.requested) (sym (resiz
 module _ (v : Bool) (c : Config) (h : State) (arena : List ℕ) (o x n : ℕ) where
   -- what a resize is asked beyond a free
   abbrev rest : Order Refusal
-  rest = choose (eqb n 0) [] (new_length_order c h o x n)
+  rest = if eqb n 0 then [] else new_length_order c h o x n
 
   -- What does not refuse a resize does not refuse the free,
   pub free_first_lem : first_reason (realloc_order v c h arena o x n) ≡ None → first_reason (free_order v c h arena o x) ≡ None

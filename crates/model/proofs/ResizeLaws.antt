@@ -4,12 +4,12 @@ use mathlib.Core.Path.{◌≡◌, refl, sym, ap, ◌∙◌}
 use mathlib.Core.Bool.{Bool, true, false}
 use mathlib.Core.List.{List, [], ◌∷◌, Memᴰ}
 use mathlib.Core.Logic.{◌↔◌}
-use Rattle.std.specs.Prelude.{None, Some, Ok, Err}
+use Rattle.std.specs.Prelude.{None, Some, is_none, Ok, Err, if◌then◌else◌}
 use Prim.Native.Nat.{ℕ, ◌+◌, ◌*◌, ◌/◌, ◌%◌, ◌≤◌, ◌<◌}
 use native.Mathlib.Omega.{arith}
 use lib.Dec.{ltb, eqb}
 use borrow.Author.Tests.{lt-ltb, le-ltb, eq-eqb, ne_eqb}
-use Rattle.model.specs.Choose.{choose, total, is_none}
+use Rattle.model.specs.Choose.{total}
 use Rattle.model.specs.Quantities.{Config, quota}
 use Rattle.model.specs.Allocation.{needed, charge, State, room, serves, lowest_start, block, insert, block_at, without, stays, refit, resize, granules_of, owned_by}
 use Rattle.model.specs.SegmentMap.{rows_of}
@@ -72,9 +72,9 @@ module _ (c : Config) (h : State) (k : Kept c h) (o x n : ℕ) (hn : 1 ≤ n) (b
 
   -- 6 if the owner's granules, the new length in place of the old, exceed its quota; 7 if there is no place; 8 if the rows afterwards exceed the table's.
   pub six_seven_eight : first_reason (new_length_order c h o x n)
-      ≡ choose (ltb (quota c.granule_quotas o + b.length) (granules_of (owned_by o h.blocks) + needed c n)) (Some refusal.GranuleQuota)
-      (choose (is_none (refit c h.blocks o x n)) (Some refusal.NoPlace)
-      (choose (ltb c.capacity (rows_of c (resizing c h o x n).blocks)) (Some refusal.TableFull) None))
+      ≡ (if ltb (quota c.granule_quotas o + b.length) (granules_of (owned_by o h.blocks) + needed c n) then Some refusal.GranuleQuota
+      else if is_none (refit c h.blocks o x n) then Some refusal.NoPlace
+      else if ltb c.capacity (rows_of c (resizing c h o x n).blocks) then Some refusal.TableFull else None)
   six_seven_eight =
       let most : ℕ = quota c.granule_quotas o in
       let others : ℕ = total (charge c) (owned_by o (without x h.blocks)) in

@@ -3,13 +3,12 @@
 use mathlib.Core.Path.{◌≡◌, sym, ap, ◌∙◌}
 use mathlib.Core.Bool.{Bool, true, false}
 use mathlib.Core.List.{List}
-use Rattle.std.specs.Prelude.{None, Some}
+use Rattle.std.specs.Prelude.{None, Some, if◌then◌else◌, ◌&&◌}
 use Prim.Native.Nat.{ℕ, ◌+◌, ◌*◌, ◌/◌, ◌≤◌, ◌<◌, min}
 use native.Mathlib.Omega.{arith}
 use lib.Dec.{leb, ltb}
 use lib.ListN.{length, get_or}
 use borrow.Author.Tests.{eqb-true, ne_eqb, le-leb, le-ltb}
-use Rattle.model.specs.Choose.{choose, both}
 use Rattle.model.specs.Quantities.{Config}
 use Rattle.model.specs.Allocation.{needed, State, block, offset, block_at, has_granule, resize, bytes}
 use Rattle.model.specs.Arena.{moved, guard_offset, guard_bytes, in_guard, with_guard, without_guard, is_broken}
@@ -82,7 +81,7 @@ module _ (v : Bool) (c : Config) (h : State) (k : Kept c h) (arena : List ℕ) (
   after : arena_after_realloc v c h arena o x n ≡ with_guard c new carried
   after = rw (e, left, was)
 
-  after_each : (i : ℕ) → get_or (arena_after_realloc v c h arena o x n) i 0 ≡ choose (in_guard c i new) 0x77 (get_or carried i 0)
+  after_each : (i : ℕ) → get_or (arena_after_realloc v c h arena o x n) i 0 ≡ (if in_guard c i new then 0x77 else get_or carried i 0)
   after_each i = rw after (filled_each c new 0x77 carried new_fits i)
 
   -- The arena keeps its length.
@@ -99,7 +98,7 @@ module _ (v : Bool) (c : Config) (h : State) (k : Kept c h) (arena : List ℕ) (
 
   -- The first bytes, as many as both blocks hold, come along, but for the new guard; of the old guard there come zeros.
   pub bytes_along : (i : ℕ) → i < min (bytes old) (bytes new) → in_guard c (offset new + i) new ≡ false
-      → get_or (arena_after_realloc v c h arena o x n) (offset new + i) 0 ≡ choose (in_guard c (x + i) old) 0 (get_or arena (x + i) 0)
+      → get_or (arena_after_realloc v c h arena o x n) (offset new + i) 0 ≡ (if in_guard c (x + i) old then 0 else get_or arena (x + i) 0)
   bytes_along i q g =
       after_each (offset new + i)
       ∙ rw g (moved_in x (bytes old) (offset new) (bytes new) freed (omega (arith, length_freed, lies.from)) (omega (arith, length_freed, lies.to)) i q
@@ -112,17 +111,17 @@ module _ (v : Bool) (c : Config) (h : State) (k : Kept c h) (arena : List ℕ) (
       ∙ rw (before_guard c old (x + i) (omega (arith, lies.first)))
 
   -- a byte that did not come along, and is not in the new guard
-  apart : (i : ℕ) → both (leb (offset new) i) (ltb i (offset new + min (bytes old) (bytes new))) ≡ false → in_guard c i new ≡ false
-      → get_or (arena_after_realloc v c h arena o x n) i 0 ≡ choose (has_granule (i / 16) old) 0 (get_or arena i 0)
+  apart : (i : ℕ) → (leb (offset new) i && ltb i (offset new + min (bytes old) (bytes new))) ≡ false → in_guard c i new ≡ false
+      → get_or (arena_after_realloc v c h arena o x n) i 0 ≡ (if has_granule (i / 16) old then 0 else get_or arena i 0)
   apart i q g =
       after_each i
       ∙ rw (g, ← byte_granule i old, lies.first) (moved_out x (bytes old) (offset new) (bytes new) freed (omega (arith, length_freed, lies.from)) (omega (arith, length_freed, lies.to)) i q
-      ∙ split (both (leb x i) (ltb i (x + bytes old)))
+      ∙ split (leb x i && ltb i (x + bytes old))
       (λ p. rw p)
       (λ p. rw p (filled_each c old 0 arena (omega (arith, lies.old_guard, lies.from)) i ∙ rw (outside i p))))
     where
       -- a byte outside the old block is not in its guard
-      outside : (i : ℕ) → both (leb x i) (ltb i (x + bytes old)) ≡ false → in_guard c i old ≡ false
+      outside : (i : ℕ) → (leb x i && ltb i (x + bytes old)) ≡ false → in_guard c i old ≡ false
       outside i p =
           split (leb x i)
           (λ l. let t : ltb i (x + bytes old) ≡ false = rw l at p in after_guard c old i (omega (tests, lies.old_guard)))
@@ -130,7 +129,7 @@ module _ (v : Bool) (c : Config) (h : State) (k : Kept c h) (arena : List ℕ) (
 
   -- Of the bytes outside the new block those of the old one are zero, so that nothing of it is readable there, and every other byte stays.
   pub bytes_elsewhere : (i : ℕ) → has_granule (i / 16) new ≡ false
-      → get_or (arena_after_realloc v c h arena o x n) i 0 ≡ choose (has_granule (i / 16) old) 0 (get_or arena i 0)
+      → get_or (arena_after_realloc v c h arena o x n) i 0 ≡ (if has_granule (i / 16) old then 0 else get_or arena i 0)
   bytes_elsewhere i q =
       split (leb (offset new) i)
       (λ p. let t : ltb i (offset new + bytes new) ≡ false = rw p at (byte_granule i new ∙ q) in
@@ -139,10 +138,10 @@ module _ (v : Bool) (c : Config) (h : State) (k : Kept c h) (arena : List ℕ) (
 
   -- A byte past those that came along, if it is not the old block's, stays as it was unless it is in the new guard.
   pub bytes_behind : (i : ℕ) → offset new + min (bytes old) (bytes new) ≤ i → has_granule (i / 16) old ≡ false
-      → get_or (arena_after_realloc v c h arena o x n) i 0 ≡ choose (in_guard c i new) 0x77 (get_or arena i 0)
+      → get_or (arena_after_realloc v c h arena o x n) i 0 ≡ (if in_guard c i new then 0x77 else get_or arena i 0)
   bytes_behind i p q =
       split (in_guard c i new)
       (λ g. rw g (bytes_guard i g))
-      (λ g. let t : get_or (arena_after_realloc v c h arena o x n) i 0 ≡ choose (has_granule (i / 16) old) 0 (get_or arena i 0) =
+      (λ g. let t : get_or (arena_after_realloc v c h arena o x n) i 0 ≡ (if has_granule (i / 16) old then 0 else get_or arena i 0) =
       apart i (rw (le-leb (offset new) i (omega arith), le-ltb i (offset new + min (bytes old) (bytes new)) p)) g in
       rw g (rw q at t))

@@ -3,12 +3,13 @@
 use mathlib.Core.Path.{◌≡◌, refl}
 use mathlib.Core.Bool.{Bool, true}
 use mathlib.Core.List.{List}
-use Rattle.std.specs.Prelude.{Some}
+use Rattle.std.specs.Prelude.{Some, if◌then◌else◌}
+use Rattle.std.specs.Option.{option_map_or}
 use Prim.Native.Nat.{ℕ, ◌+◌, ◌≤◌, max}
 use native.Mathlib.Omega.{arith}
 use lib.Dec.{eqb}
 use borrow.Author.Tests.{leb-true, eq-eqb}
-use Rattle.model.specs.Choose.{choose, total, given}
+use Rattle.model.specs.Choose.{total}
 use Rattle.model.specs.Quantities.{is_owner, Config}
 use Rattle.model.specs.Allocation.{needed, State, block, insert, block_at, without, resize, granules_of, changed, owned_by}
 use Rattle.model.specs.Orders.{first_reason, realloc_order}
@@ -21,7 +22,7 @@ use Rattle.model.specs.declared.Segment.{Segment}
 
 module _ (c : Config) (h : State) (k : Kept c h) where
   -- what the blocks hold without the block at x
-  left : (x : ℕ) → granules_of (without x h.blocks) + given (block_at x h.blocks) 0 (λ b. b.length) ≡ granules_of h.blocks
+  left : (x : ℕ) → granules_of (without x h.blocks) + option_map_or (λ b. b.length) (block_at x h.blocks) 0 ≡ granules_of h.blocks
   left x = total_without c (λ (b : Segment). b.length) 0 x h.blocks k.ordered
 
   -- A block in place of the one at x: what both hold is exchanged.
@@ -34,7 +35,7 @@ module _ (c : Config) (h : State) (k : Kept c h) where
       → total f (owned_by o (without x h.blocks)) + f b ≡ total f (owned_by o h.blocks)
   owner_without f o x b e q =
       let own : Segment → Bool = λ (b : Segment). eqb b.owner o in
-      let w = rw (e, eq-eqb b.owner o q) at (total_without c (λ (b : Segment). choose (own b) (f b) 0) 0 x h.blocks k.ordered) in
+      let w = rw (e, eq-eqb b.owner o q) at (total_without c (λ (b : Segment). if own b then f b else 0) 0 x h.blocks k.ordered) in
       rw (total_only f own h.blocks, total_only f own (without x h.blocks)) w
 
   module _ (v : Bool) (arena : List ℕ) (o x n : ℕ) where

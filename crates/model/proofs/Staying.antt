@@ -4,11 +4,11 @@ use mathlib.Core.Path.{◌≡◌, refl, sym, ap, subst}
 use mathlib.Core.Bool.{true, false, not}
 use mathlib.Core.List.{List, [], ◌∷◌}
 use Rattle.std.specs.Prelude.{None, Some}
+use Rattle.std.specs.List.{list_all}
 use Prim.Native.Nat.{ℕ, ◌+◌, ◌-◌, ◌*◌, ◌/◌, ◌≤◌, ◌<◌}
 use native.Mathlib.Omega.{arith}
 use lib.Dec.{leb, eqb}
 use borrow.Author.Tests.{le-leb, lt-leb, ne_eqb}
-use Rattle.model.specs.Choose.{every}
 use Rattle.model.specs.Quantities.{Config}
 use Rattle.model.specs.Allocation.{needed, clear_of, room, lowest_start, block, offset, block_at, without, stays, refit, bytes}
 use Rattle.model.specs.Arena.{disjoint}
@@ -30,20 +30,20 @@ module _ (c : Config) where
 
   -- a run at the start of the block at x, and no longer, is clear of the other blocks
   own_clear : (g s x : ℕ) (bs : List Segment) (b : Segment) → Ordered c s bs → block_at x bs ≡ Some b → g ≤ b.length
-      → every (clear_of b.start g) (without x bs) ≡ true
+      → list_all (clear_of b.start g) (without x bs) ≡ true
   own_clear g s x [] b o e h = refl
   own_clear g s x (d ∷ bs) b o e h =
       split (eqb (offset d) x)
       (λ q. let z : d ≡ b = at_head x d b bs q e in
       let t : g ≤ d.length = subst (λ (k : Segment). g ≤ k.length) (sym z) h in
-      rw q (subst (λ (k : Segment). every (clear_of k.start g) (without x bs) ≡ true) z
+      rw q (subst (λ (k : Segment). list_all (clear_of k.start g) (without x bs) ≡ true) z
       (clear_all c d.start g (d.start + d.length) (without x bs) (omega arith) (only_ordered c (λ (b : Segment). not (eqb (offset b) x)) (d.start + d.length) bs o.2))))
       (λ q. let e' : block_at x bs ≡ Some b = rw q at e in
       let r : Begins c (d.start + d.length) x bs b = begins c (d.start + d.length) x bs b o.2 e' in
       rw (q, after_clear b.start g d r.from) (own_clear g (d.start + d.length) x bs b o.2 e' h))
 
   -- a run from t on is clear of blocks past its first k granules if the rest of it is
-  rest_clear : (t k g s : ℕ) (bs : List Segment) → t + k ≤ s → k < g → Ordered c s bs → every (clear_of t g) bs ≡ every (clear_of (t + k) (g - k)) bs
+  rest_clear : (t k g s : ℕ) (bs : List Segment) → t + k ≤ s → k < g → Ordered c s bs → list_all (clear_of t g) bs ≡ list_all (clear_of (t + k) (g - k)) bs
   rest_clear t k g s [] h m o = refl
   rest_clear t k g s (b ∷ bs) h m o =
       let z : t + k + (g - k) ≡ t + g = omega arith in
@@ -52,14 +52,14 @@ module _ (c : Config) where
 
   -- a longer run there is clear of the other blocks exactly if the rest of it is clear of all
   behind_clear : (g s x : ℕ) (bs : List Segment) (b : Segment) → Ordered c s bs → block_at x bs ≡ Some b → b.length < g
-      → every (clear_of b.start g) (without x bs) ≡ every (clear_of (b.start + b.length) (g - b.length)) bs
+      → list_all (clear_of b.start g) (without x bs) ≡ list_all (clear_of (b.start + b.length) (g - b.length)) bs
   behind_clear g s x [] b o e h = refl
   behind_clear g s x (d ∷ bs) b o e h =
       split (eqb (offset d) x)
       (λ q. let z : d ≡ b = at_head x d b bs q e in
       let l : 1 ≤ d.length = long c d o.1 in
       let t : d.length < g = subst (λ (k : Segment). k.length < g) (sym z) h in
-      rw q (subst (λ (k : Segment). every (clear_of k.start g) (without x bs) ≡ every (clear_of (k.start + k.length) (g - k.length)) (d ∷ bs)) z
+      rw q (subst (λ (k : Segment). list_all (clear_of k.start g) (without x bs) ≡ list_all (clear_of (k.start + k.length) (g - k.length)) (d ∷ bs)) z
       (rw (without_later (d.start + d.length) x bs (omega tests) o.2, after_clear (d.start + d.length) (g - d.length) d (omega arith))
       (rest_clear d.start d.length g (d.start + d.length) bs (omega arith) t o.2))))
       (λ q. let e' : block_at x bs ≡ Some b = rw q at e in

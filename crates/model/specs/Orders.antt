@@ -1,7 +1,7 @@
 -- The orders of refusal of documents 01 and 02, each as one list to lay beside its line, and 01's "proper" and "within limits".
 -- Assumes nothing.
-use Rattle.std.specs.Prelude.{ℕ, Bool, List, [], ◌∷◌, ◌++◌, eqb, Option, None, Some}
-use Rattle.model.specs.Choose.{choose, given}
+use Rattle.std.specs.Prelude.{ℕ, Bool, if◌then◌else◌, List, [], ◌∷◌, ◌++◌, eqb, Option, None, Some}
+use Rattle.std.specs.Option.{option_map_or}
 use Rattle.model.specs.Quantities.{Config}
 use Rattle.model.specs.Allocation.{State, fit, without, refit}
 use Rattle.model.specs.Reasons.{Reason, invalid_heap, bad_owner, zero_size, bad_alignment, block_quota_reached, granule_quota_exceeded, no_place, table_full, past_end, not_aligned, free_memory, inside_block, other_owner, broken_guard, other_arena, other_guarded_arena, bad_arena, bad_base, bad_table, bad_quota}
@@ -50,7 +50,7 @@ module _ (is_valid : Bool) (c : Config) (h : State) where
   -- For a resize, as for a free: 1, 11, 2, 15, 16, 17, 9, 10, 19; then, unless the size is 0, 6, 7, 8.
   unfoldable pub realloc_order : List ℕ → ℕ → ℕ → ℕ → Order Refusal
   realloc_order arena o x n =
-      free_order arena o x ++ choose (eqb n 0) [] (new_length_order c h o x n)
+      free_order arena o x ++ (if eqb n 0 then [] else new_length_order c h o x n)
 
   -- For a block's size: 1, 2, then 15, 16, 17, 9, 10.
   unfoldable pub block_size_order : ℕ → ℕ → Order Refusal
@@ -72,11 +72,11 @@ holding_order is_valid o = invalid_heap is_valid ∷ bad_owner o ∷ []
 -- The first reason that applies is given, and none is given otherwise.
 abbrev pub first_reason : {R : Type 0} → Order R → Option R
 first_reason [] = None
-first_reason (r ∷ rs) = choose r.0 (Some r.1) (first_reason rs)
+first_reason (r ∷ rs) = if r.0 then Some r.1 else first_reason rs
 
 -- A call comes to its value where no reason applies, else to what is made of the first that does.
 abbrev pub unless : {R A : Type 0} → Order R → A → (R → A) → A
-unless order a refused = given (first_reason order) a refused
+unless order a refused = option_map_or refused (first_reason order) a
 
 -- 2, 3 and 4 are asked of an allocation's numbers alone.
 abbrev pub request_order : ℕ → ℕ → ℕ → Order Refusal

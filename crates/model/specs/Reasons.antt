@@ -1,7 +1,8 @@
 -- Document 01's "Numbers that say no", 1 to 13, and document 02's 15 to 19: when each applies. (14 is the script program's.)
 -- Assumes nothing.
-use Rattle.std.specs.Prelude.{ℕ, ◌+◌, ◌*◌, ◌/◌, ◌%◌, Bool, false, not, List, leb, ltb, eqb, length, Option}
-use Rattle.model.specs.Choose.{both, total, given, is_none}
+use Rattle.std.specs.Prelude.{ℕ, ◌+◌, ◌*◌, ◌/◌, ◌%◌, Bool, false, not, ◌&&◌, List, leb, ltb, eqb, length, Option, is_none}
+use Rattle.std.specs.Option.{option_map_or}
+use Rattle.model.specs.Choose.{total}
 use Rattle.model.specs.Quantities.{is_arena, is_base, is_table, is_owner, quotas_in_range, is_alignment, Config, quota}
 use Rattle.model.specs.Allocation.{needed, charge, put, block_at, block_over, owned_by}
 use Rattle.model.specs.Arena.{has_recorded_length, is_broken}
@@ -63,15 +64,15 @@ free_memory bs x = (is_none (block_over (x / 16) bs), refusal.FreeMemory)
 
 -- 9: it is in a live block, after its first granule.
 abbrev pub inside_block : List Segment → ℕ → Reason Refusal
-inside_block bs x = (given (block_over (x / 16) bs) false (λ b. ltb b.start (x / 16)), refusal.InsideBlock)
+inside_block bs x = (option_map_or (λ b. ltb b.start (x / 16)) (block_over (x / 16) bs) false, refusal.InsideBlock)
 
 -- 10: it is the first byte of a live block, but the block has another owner.
 abbrev pub other_owner : List Segment → ℕ → ℕ → Reason Refusal
-other_owner bs o x = (given (block_at x bs) false (λ b. not (eqb b.owner o)), refusal.OtherOwner)
+other_owner bs o x = (option_map_or (λ b. not (eqb b.owner o)) (block_at x bs) false, refusal.OtherOwner)
 
 -- 19: it is the first byte of a live block, but a byte of the block's guard differs from 0x77.
 abbrev pub broken_guard : Config → List Segment → List ℕ → ℕ → Reason Refusal
-broken_guard c bs arena x = (given (block_at x bs) false (is_broken c arena), refusal.BrokenGuard)
+broken_guard c bs arena x = (option_map_or (is_broken c arena) (block_at x bs) false, refusal.BrokenGuard)
 
 -- 11 of a free and of a resize: the arena's length is not the one recorded.
 abbrev pub other_arena : Config → List ℕ → Reason Refusal
@@ -79,7 +80,7 @@ other_arena c arena = (not (has_recorded_length c arena), refusal.ArenaLength)
 
 -- 11 of an allocation: the same, but only in a heap with guards.
 abbrev pub other_guarded_arena : Config → List ℕ → Reason Refusal
-other_guarded_arena c arena = (both (ltb 0 c.guards) (not (has_recorded_length c arena)), refusal.ArenaLength)
+other_guarded_arena c arena = (ltb 0 c.guards && not (has_recorded_length c arena), refusal.ArenaLength)
 
 -- 11 of a making: the arena's length is not allowed.
 abbrev pub bad_arena : List ℕ → Reason InitRefusal

@@ -1,7 +1,7 @@
 -- What each call answers and leaves, of a set of live blocks; a call to which a reason applies answers the first, and leaves all as it was.
 -- Assumes nothing.
-use Rattle.std.specs.Prelude.{ℕ, ◌*◌, ◌/◌, Bool, List, length, replicate, Result, Ok, Err}
-use Rattle.model.specs.Choose.{choose, given}
+use Rattle.std.specs.Prelude.{ℕ, ◌*◌, ◌/◌, Bool, if◌then◌else◌, List, length, replicate, Result, Ok, Err}
+use Rattle.std.specs.Option.{option_map_or}
 use Rattle.model.specs.Quantities.{Config}
 use Rattle.model.specs.Allocation.{State, fit, put, offset, block_at, without, resize, bytes, owned_by, granules_of, free_granules, changed}
 use Rattle.model.specs.Arena.{zeroed, moved, with_guard, without_guard}
@@ -28,7 +28,7 @@ module _ (arena words : List ℕ) (p : Plan) where
       record {
         granules = length arena / 16;
         base = p.base;
-        guards = choose p.guarded 1 0;
+        guards = if p.guarded then 1 else 0;
         capacity = length words / 4;
         granule_quotas = p.granule_quotas;
         block_quotas = p.block_quotas;
@@ -52,15 +52,15 @@ resizing c h o x n = changed h (put (resize c h.blocks o x n) (without x h.block
 
 -- The block of an allocation begins at so many bytes, 0 if there is none.
 abbrev pub offset_for : Config → State → ℕ → ℕ → ℕ → ℕ
-offset_for c h o n a = given (fit c h.blocks o n a) 0 offset
+offset_for c h o n a = option_map_or offset (fit c h.blocks o n a) 0
 
 -- The block at x holds so many bytes, 0 if there is none.
 abbrev pub bytes_at : State → ℕ → ℕ
-bytes_at h x = given (block_at x h.blocks) 0 bytes
+bytes_at h x = option_map_or bytes (block_at x h.blocks) 0
 
 -- The arena with the guard of the block at x zeroed; as it is if there is none.
 abbrev pub without_guard_at : Config → State → ℕ → List ℕ → List ℕ
-without_guard_at c h x arena = given (block_at x h.blocks) arena (λ b. without_guard c b arena)
+without_guard_at c h x arena = option_map_or (λ b. without_guard c b arena) (block_at x h.blocks) arena
 
 -- A free's answer, as a resize's.
 abbrev pub as_resize : Result ℕ Refusal → Result Resized Refusal
@@ -69,11 +69,11 @@ as_resize (Err why) = Err why
 
 -- The value that a resize answers is the byte offset of the block that is left; if none is, the bytes that the block at x holds.
 abbrev pub resized_to : Config → State → ℕ → ℕ → ℕ → ℕ
-resized_to c h o x n = given (resize c h.blocks o x n) (bytes_at h x) offset
+resized_to c h o x n = option_map_or offset (resize c h.blocks o x n) (bytes_at h x)
 
 -- The block at x was requested with so many bytes, 0 if there is none.
 abbrev pub requested_at : State → ℕ → ℕ
-requested_at h x = given (block_at x h.blocks) 0 (λ b. b.requested)
+requested_at h x = option_map_or (λ b. b.requested) (block_at x h.blocks) 0
 
 -- Used is so many bytes.
 abbrev pub used_bytes : State → ℕ
@@ -111,12 +111,12 @@ module _ (is_valid : Bool) (c : Config) (h : State) where
 
   -- It is granted the granules of its block; refused, none.
   abbrev pub granted_alloc : List ℕ → ℕ → ℕ → ℕ → ℕ
-  granted_alloc arena o n a = unless (alloc_order is_valid c h arena o n a) (given (fit c h.blocks o n a) 0 (λ b. b.length)) (λ r. 0)
+  granted_alloc arena o n a = unless (alloc_order is_valid c h arena o n a) (option_map_or (λ b. b.length) (fit c h.blocks o n a) 0) (λ r. 0)
 
   -- Its block's guard is filled then, unless it is refused, and every other byte of the arena stays; in a heap without guards all do.
   abbrev pub arena_after_alloc : List ℕ → ℕ → ℕ → ℕ → List ℕ
   arena_after_alloc arena o n a =
-      unless (alloc_order is_valid c h arena o n a) (given (fit c h.blocks o n a) arena (λ b. with_guard c b arena)) (λ r. arena)
+      unless (alloc_order is_valid c h arena o n a) (option_map_or (λ b. with_guard c b arena) (fit c h.blocks o n a) arena) (λ r. arena)
 
   -- A free answers the bytes that its block holds.
   abbrev pub free : List ℕ → ℕ → ℕ → Result ℕ Refusal
@@ -128,7 +128,7 @@ module _ (is_valid : Bool) (c : Config) (h : State) where
 
   -- It returns the granules of its block; refused, none.
   abbrev pub returned_free : List ℕ → ℕ → ℕ → ℕ
-  returned_free arena o x = unless (free_order is_valid c h arena o x) (given (block_at x h.blocks) 0 (λ b. b.length)) (λ r. 0)
+  returned_free arena o x = unless (free_order is_valid c h arena o x) (option_map_or (λ b. b.length) (block_at x h.blocks) 0) (λ r. 0)
 
   -- All bytes of its block are zero then, unless it is refused, and every other byte of the arena stays.
   abbrev pub arena_after_free : List ℕ → ℕ → ℕ → List ℕ
@@ -138,7 +138,7 @@ module _ (is_valid : Bool) (c : Config) (h : State) where
   abbrev pub realloc : List ℕ → ℕ → ℕ → ℕ → Result Resized Refusal
   realloc arena o x n =
       unless (realloc_order is_valid c h arena o x n)
-      (given (resize c h.blocks o x n) (Ok (resized.Freed (bytes_at h x))) (λ b. Ok (resized.At (offset b))))
+      (option_map_or (λ b. Ok (resized.At (offset b))) (resize c h.blocks o x n) (Ok (resized.Freed (bytes_at h x))))
       Err
 
   -- The block that is left is live then instead of the one at x, unless it is refused.
@@ -148,17 +148,17 @@ module _ (is_valid : Bool) (c : Config) (h : State) where
   -- It is granted the granules of the block that is left, if one is; refused, none.
   abbrev pub granted_realloc : List ℕ → ℕ → ℕ → ℕ → ℕ
   granted_realloc arena o x n =
-      unless (realloc_order is_valid c h arena o x n) (given (resize c h.blocks o x n) 0 (λ b. b.length)) (λ r. 0)
+      unless (realloc_order is_valid c h arena o x n) (option_map_or (λ b. b.length) (resize c h.blocks o x n) 0) (λ r. 0)
 
   -- It returns the granules of the block at x; refused, none. (Both are counted whole, so that used changes by their difference.)
   abbrev pub returned_realloc : List ℕ → ℕ → ℕ → ℕ → ℕ
-  returned_realloc arena o x n = unless (realloc_order is_valid c h arena o x n) (given (block_at x h.blocks) 0 (λ b. b.length)) (λ r. 0)
+  returned_realloc arena o x n = unless (realloc_order is_valid c h arena o x n) (option_map_or (λ b. b.length) (block_at x h.blocks) 0) (λ r. 0)
 
   -- The guard of the block at x is zeroed; then its bytes, as many as the block that is left has room for, stand from that block's start on, and the rest of the old place is zero; then the guard of the block that is left is filled, and every other byte stays. If no block is left, all bytes of the old place are zero; refused, all bytes stay.
   abbrev pub arena_after_realloc : List ℕ → ℕ → ℕ → ℕ → List ℕ
   arena_after_realloc arena o x n =
       unless (realloc_order is_valid c h arena o x n)
-      (given (resize c h.blocks o x n) (zeroed x (bytes_at h x) arena) (λ b. with_guard c b (moved x (bytes_at h x) (offset b) (bytes b) (without_guard_at c h x arena))))
+      (option_map_or (λ b. with_guard c b (moved x (bytes_at h x) (offset b) (bytes b) (without_guard_at c h x arena))) (resize c h.blocks o x n) (zeroed x (bytes_at h x) arena))
       (λ r. arena)
 
   -- A block's size is the bytes requested and the bytes held.

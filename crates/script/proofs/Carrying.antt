@@ -3,13 +3,12 @@
 use mathlib.Core.Path.{◌≡◌, refl, sym, ap, ◌∙◌, subst}
 use mathlib.Core.Bool.{Bool, true, false, not}
 use mathlib.Core.List.{List, ◌++◌}
-use Rattle.std.specs.Prelude.{Option, None, Some, Result, Ok, Err}
+use Rattle.std.specs.Prelude.{Option, None, Some, Result, Ok, Err, ◌||◌}
 use Prim.Native.Nat.{ℕ, ◌*◌, ◌≤◌, min}
 use native.Mathlib.Omega.{arith}
 use lib.Dec.{ltb}
 use lib.ListN.{length, take, drop, take-append-drop}
 use lib.Seq.{length-take-le}
-use Rattle.model.specs.Choose.{either}
 use Rattle.model.specs.Quantities.{is_arena, is_table}
 use Rattle.model.specs.Orders.{first_reason, init_order, alloc_order, free_order}
 use borrow.Author.Tests.{lt-ltb, le-ltb}
@@ -90,32 +89,32 @@ module _ (s : Script) (ws bs : List ℕ) (k n : ℕ) (e : k ≡ min (4 * s.heap.
       (ap call_answer w.answer, left _ _ out.heap words_left bytes_left w.heap w.table w.arena)
 
 -- One of two tests holds if the second does.
-pub either_true : (t u : Bool) → u ≡ true → either t u ≡ true
+pub either_true : (t u : Bool) → u ≡ true → (t || u) ≡ true
 either_true true u e = refl
 either_true false u e = e
 
 -- If the second does not, the first decides.
-pub either_false : (t u : Bool) → u ≡ false → either t u ≡ t
+pub either_false : (t u : Bool) → u ≡ false → (t || u) ≡ t
 either_false true u e = refl
 either_false false u e = e
 
 -- More than the one or than the other is more than the smaller.
-over_smaller : (a b x : ℕ) → either (ltb a x) (ltb b x) ≡ ltb (min b a) x
+over_smaller : (a b x : ℕ) → (ltb a x || ltb b x) ≡ ltb (min b a) x
 over_smaller a b x =
     split (ltb a x)
     (λ q. rw (q, lt-ltb (min b a) x (omega tests)))
     (λ q. split (ltb b x) (λ p. rw (q, p, lt-ltb (min b a) x (omega tests))) (λ p. rw (q, p, le-ltb (min b a) x (omega tests))))
 
 -- A test that does not hold of 0 holds of the length of a part exactly if it holds of the number asked for, and there are so many.
-part_test : (p : ℕ → Bool) → p 0 ≡ false → (b m : ℕ) (l : List ℕ) → m ≤ length l → either (not (p b)) (ltb m b) ≡ not (p (length (take (part_of b m) l)))
+part_test : (p : ℕ → Bool) → p 0 ≡ false → (b m : ℕ) (l : List ℕ) → m ≤ length l → (not (p b) || ltb m b) ≡ not (p (length (take (part_of b m) l)))
 part_test p nothing b m l h =
     split (ltb m b)
     (λ q. either_true (not (p b)) (ltb m b) q ∙ rw (q, nothing))
     (λ q. let z : length (take b l) ≡ b = length-take-le b l (omega tests) in either_false (not (p b)) (ltb m b) q ∙ rw (q, z))
 
 -- If there are so many, the part has so many.
-part_whole : (t : Bool) (b m : ℕ) → either t (ltb m b) ≡ false → part_of b m ≡ b
-part_whole t b m e = split (ltb m b) (λ q. absurd (clash (either t (ltb m b)) (either_true t (ltb m b) q) e)) (λ q. rw q)
+part_whole : (t : Bool) (b m : ℕ) → (t || ltb m b) ≡ false → part_of b m ≡ b
+part_whole t b m e = split (ltb m b) (λ q. absurd (clash (t || ltb m b) (either_true t (ltb m b) q) e)) (λ q. rw q)
 
 -- A make of b bytes and r rows.
 module _ (s : Script) (ws bs : List ℕ) (b r n k : ℕ) (bytes_part : n ≡ part_of b (min (length bs) most_bytes)) (words_part : k ≡ part_of (4 * r) (length ws)) where

@@ -3,14 +3,14 @@
 use mathlib.Core.Path.{◌≡◌, refl, sym, ap, ◌∙◌, subst}
 use mathlib.Core.Bool.{Bool, true, false, not}
 use mathlib.Core.List.{List, [], ◌∷◌, ◌++◌, append_assoc, append-nil}
-use Rattle.std.specs.Prelude.{Option, None, Some, Result, Ok, Err}
+use Rattle.std.specs.Prelude.{Option, None, Some, Result, Ok, Err, ◌&&◌, ◌||◌}
+use Rattle.std.specs.List.{list_all}
 use Prim.Native.Nat.{ℕ, zero, suc, ◌+◌, ◌-◌, ◌*◌, ◌/◌, ◌%◌, ◌≤◌, ◌<◌, min}
 use native.Mathlib.Omega.{arith}
 use lib.Dec.{ltb, eqb}
 use lib.ListN.{length, take, drop, length-append, take-append-drop}
 use lib.Seq.{take_at}
 use borrow.Author.Tests.{eqb-true, not-true, le-leb, ne_eqb}
-use Rattle.model.specs.Choose.{both, either, every}
 use Rattle.model.specs.Quantities.{Config, in_range}
 use Rattle.model.specs.Allocation.{State, fresh}
 use Rattle.model.specs.SegmentMap.{map_of}
@@ -74,14 +74,14 @@ abbrev pub is_other : ℕ → ℕ → Bool
 is_other s b = not (eqb b s)
 
 -- No piece holds a separator: every separator ends one.
-pub pieces_apart : (s : ℕ) (bs : List ℕ) → every (every (is_other s)) (pieces s bs) ≡ true
+pub pieces_apart : (s : ℕ) (bs : List ℕ) → list_all (list_all (is_other s)) (pieces s bs) ≡ true
 pieces_apart s [] = refl
 pieces_apart s (b ∷ bs) =
     split (eqb b s)
     (λ q. rw (q, pieces_apart s bs))
     (λ q. rw q (prefixed_apart (pieces s bs) (rw q) (pieces_apart s bs)))
   where
-    prefixed_apart : (fs : List (List ℕ)) → is_other s b ≡ true → every (every (is_other s)) fs ≡ true → every (every (is_other s)) (prefixed (b ∷ []) fs) ≡ true
+    prefixed_apart : (fs : List (List ℕ)) → is_other s b ≡ true → list_all (list_all (is_other s)) fs ≡ true → list_all (list_all (is_other s)) (prefixed (b ∷ []) fs) ≡ true
     prefixed_apart [] h e = rw h
     prefixed_apart (f ∷ fs) h e = rw (h, e)
 
@@ -105,7 +105,7 @@ unfolding decimal
 value_decimal n = value_digits (suc n) n (omega arith)
 
 -- What is written are digits.
-digits_only : (k n : ℕ) → every is_digit (digits_within k n) ≡ true
+digits_only : (k n : ℕ) → list_all is_digit (digits_within k n) ≡ true
 digits_only zero n = refl
 digits_only (suc k) n =
     split (ltb n 10)
@@ -137,20 +137,20 @@ digit_plain : (d : ℕ) → is_digit d ≡ true → plain d ≡ true
 digit_plain d h = rw (ne_eqb d 10 (λ e. absurd (omega (arith, within_least 48 57 d h))))
 
 -- Numbers are written with no newline.
-spaced_plain : (ns : List ℕ) → every plain (spaced ns) ≡ true
+spaced_plain : (ns : List ℕ) → list_all plain (spaced ns) ≡ true
 unfolding decimal
 spaced_plain [] = refl
 spaced_plain (n ∷ ns) =
     every_append plain (decimal n) (spaced ns) (every_weaker is_digit plain digit_plain (decimal n) (digits_only (suc n) n)) (spaced_plain ns)
 
 -- A text with no newline, and then a newline, is a piece.
-plain_piece : (text rest : List ℕ) → every plain text ≡ true → pieces 10 (text ++ (10 ∷ rest)) ≡ text ∷ pieces 10 rest
+plain_piece : (text rest : List ℕ) → list_all plain text ≡ true → pieces 10 (text ++ (10 ∷ rest)) ≡ text ∷ pieces 10 rest
 plain_piece [] rest h = refl
 plain_piece (b ∷ text) rest h =
     rw (not-true (eqb b 10) (every_head plain b text h), plain_piece text rest (every_tail plain b text h))
 
 -- A line that is written is a piece.
-line_piece : (word ns rest : List ℕ) → every plain word ≡ true → pieces 10 (line_of word ns ++ rest) ≡ (word ++ spaced ns) ∷ pieces 10 rest
+line_piece : (word ns rest : List ℕ) → list_all plain word ≡ true → pieces 10 (line_of word ns ++ rest) ≡ (word ++ spaced ns) ∷ pieces 10 rest
 line_piece word ns rest h =
     simp append_assoc (simp append_assoc at (plain_piece (word ++ spaced ns) rest (every_append plain word (spaced ns) h (spaced_plain ns))))
 
@@ -221,10 +221,10 @@ is_make None = false
 -- Some make among the lines is granted.
 abbrev pub makes : Machine → List (List ℕ) → Bool
 makes m [] = false
-makes m (l ∷ ls) = either (both (is_make (read_line l)) (is_ok (answer_to m (read_line l)))) (makes (after m (read_line l)) ls)
+makes m (l ∷ ls) = (is_make (read_line l) && is_ok (answer_to m (read_line l))) || makes (after m (read_line l)) ls
 
 -- Whether one of three tests holds does not depend on how they are grouped.
-either_three : (a b c : Bool) → either (either a b) c ≡ either a (either b c)
+either_three : (a b c : Bool) → (a || b || c) ≡ (a || (b || c))
 either_three true b c = refl
 either_three false b c = refl
 
@@ -244,7 +244,7 @@ module _ (m : Machine) where
   call_stays : (order : Order Refusal) (h : State) (bs : List ℕ)
       → (is_valid (stored m) ≡ false → afterwards (stored m) order h ≡ stored m)
       → (is_valid (stored m) ≡ true → first_reason order ≡ None → Kept (config (stored m)) h)
-      → is_valid (stored (leaving m (afterwards (stored m) order h) bs)) ≡ either (is_valid (stored m)) false
+      → is_valid (stored (leaving m (afterwards (stored m) order h) bs)) ≡ (is_valid (stored m) || false)
   call_stays order h bs stays keeps =
       let valid-after : Stored → Bool = λ t. is_valid (stored (leaving m t bs)) in
       let same : valid-after (stored m) ≡ is_valid (stored m) = ap (λ k. is_valid (stored k)) (leaving_same m bs) in
@@ -282,7 +282,7 @@ module _ (m : Machine) where
         ∙ kept_valid c fresh m.script (drop (4 * r) m.table) [] ranged (fresh_kept c ranged)
 
   -- One command: there is a heap after it if there was one, or if it is a make that is granted.
-  step_valid : (k : Option Command) → is_valid (stored (after m k)) ≡ either (is_valid (stored m)) (both (is_make k) (is_ok (answer_to m k)))
+  step_valid : (k : Option Command) → is_valid (stored (after m k)) ≡ (is_valid (stored m) || (is_make k && is_ok (answer_to m k)))
   step_valid (Some (command.Limit o g b)) =
       split_option (first_reason (limit_order o)) (λ q. rw q (sym (either_false _ false refl))) (λ t q. rw q (sym (either_false _ false refl)))
   step_valid (Some (command.Make b r)) =
@@ -322,19 +322,19 @@ pub script_unguarded : (words bytes : List ℕ) (ls : List (List ℕ)) → (heap
 script_unguarded words bytes ls = lines_unguarded (machine started words bytes) ls refl
 
 -- After lines there is a heap if there was one, or if some make among them was granted.
-lines_valid : (m : Machine) (ls : List (List ℕ)) → is_valid (stored (after_lines m ls)) ≡ either (is_valid (stored m)) (makes m ls)
+lines_valid : (m : Machine) (ls : List (List ℕ)) → is_valid (stored (after_lines m ls)) ≡ (is_valid (stored m) || makes m ls)
 lines_valid m [] = sym (either_false _ false refl)
 lines_valid m (l ∷ ls) =
     lines_valid (after m (read_line l)) ls
-    ∙ ap (λ t. either t (makes (after m (read_line l)) ls)) (step_valid m (read_line l))
-    ∙ either_three (is_valid (stored m)) (both (is_make (read_line l)) (is_ok (answer_to m (read_line l)))) (makes (after m (read_line l)) ls)
+    ∙ ap (λ t. t || makes (after m (read_line l)) ls) (step_valid m (read_line l))
+    ∙ either_three (is_valid (stored m)) (is_make (read_line l) && is_ok (answer_to m (read_line l))) (makes (after m (read_line l)) ls)
 
 -- From the start there is a heap exactly if some make was granted, after every list of lines and whatever the words and bytes that are lent hold.
 pub heap_made : (table arena : List ℕ) (ls : List (List ℕ))
     → is_valid (stored (after_lines (machine started table arena) ls)) ≡ makes (machine started table arena) ls
 heap_made table arena ls =
     lines_valid (machine started table arena) ls
-    ∙ ap (λ t. either t (makes (machine started table arena) ls)) (zero_invalid (words (machine started table arena)))
+    ∙ ap (λ t. t || makes (machine started table arena) ls) (zero_invalid (words (machine started table arena)))
 
 -- A text with a byte in it is not empty.
 not_empty : (xs : List ℕ) (y : ℕ) (ys : List ℕ) → xs ++ (y ∷ ys) ≡ [] → ⊥

@@ -7,13 +7,13 @@ use lib.Dec.{ltb}
 use borrow.Author.Tests.{leb-true, le-leb, lt-leb, le-ltb}
 use Rattle.std.specs.Bool.{MatchBool}
 use Rattle.std.specs.Option.{option_map}
-use Rattle.std.specs.List.{slice_split, onto_first, position, position_or_len, All, IsFirstMatchOrLen}
+use Rattle.std.specs.List.{slice_split, onto_first, position, position_or_len, All, IsFirstMatchOrLen, list_all}
+use Rattle.std.specs.Prelude.{if◌then◌else◌}
 use Rattle.std.specs.Slice.Iter.{split_steps, split_rest, split_done, split_callee}
 use Rattle.std.specs.Fn.{ComputesKey, CalledAt}
 use Rattle.std.proofs.lemmas.List.Splits.{slice_split_none, slice_split_at, slice_split_first}
 use Rattle.std.proofs.lemmas.Fn.{always_returns_same}
 use Rattle.std.proofs.lemmas.Grind.{common_steps}
-use Rattle.model.specs.Choose.{choose, every}
 use Rattle.model.specs.Quantities.{within}
 use Rattle.model.proofs.Choosing.{split, parts, tests, every_head}
 use Rattle.model.proofs.Ranges.{within_least, within_most, bounds_within}
@@ -27,7 +27,7 @@ prefixed_onto b [] = refl
 prefixed_onto b (f ∷ fs) = refl
 
 -- A choice is std's.
-chosen : {A : Type 0} (t : Bool) (a b : A) → choose t a b ≡ cond t a b
+chosen : {A : Type 0} (t : Bool) (a b : A) → (if t then a else b) ≡ cond t a b
 chosen true a b = refl
 chosen false a b = refl
 
@@ -98,7 +98,7 @@ newline_some l n e =
 pub record Readable (f : List ℕ) : Type 0 where
   pub some_digits : 1 ≤ length f
   pub few : length f ≤ 10
-  pub digits : every is_digit f ≡ true
+  pub digits : list_all is_digit f ≡ true
   pub fits : value_of f ≤ 4294967295
 
 -- The test of a number says what a number is.
@@ -118,7 +118,7 @@ unfolding number_in
 no_number f h = split (is_number f) (λ q. absurd (h (readable f q))) (λ q. rw q)
 
 -- A field has no number if the byte at place i, before which all are digits, is none.
-pub stray_byte : (f : List ℕ) (i : ℕ) → i < length f → every is_digit f ≡ every is_digit (drop i f) → (48 ≤ get_or f i 0 → get_or f i 0 ≤ 57 → ⊥) → None ≡ number_in f
+pub stray_byte : (f : List ℕ) (i : ℕ) → i < length f → list_all is_digit f ≡ list_all is_digit (drop i f) → (48 ≤ get_or f i 0 → get_or f i 0 ≤ 57 → ⊥) → None ≡ number_in f
 stray_byte f i h e q =
     no_number f (λ r.
     let b : is_digit (get_or f i 0) ≡ true = every_head is_digit (get_or f i 0) (drop (suc i) f) (rw (drop-cons f i 0 h) at (sym e ∙ r.digits)) in

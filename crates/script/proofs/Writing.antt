@@ -1,6 +1,6 @@
 -- Texts put into a buffer one after the other, the digits of a number, how long the lines are that are written, and what comes at the end.
 -- Assumes nothing.
-use Rattle.std.specs.Prelude.{Result, Ok, Err}
+use Rattle.std.specs.Prelude.{Result, Ok, Err, if◌then◌else◌}
 use mathlib.Core.Path.{◌≡◌, refl, sym, ap, ◌∙◌, subst}
 use mathlib.Core.Bool.{true}
 use mathlib.Core.List.{List, [], ◌∷◌, ◌++◌, append_assoc, append-nil}
@@ -12,7 +12,7 @@ use lib.Dec.{ltb}
 use lib.ListN.{length, take, drop, get_or, set, length-append, take-append-drop}
 use lib.Seq.{length-sets, take-suc, drop-cons}
 use borrow.Author.Tests.{lt-ltb, le-ltb}
-use Rattle.model.specs.Choose.{choose, total}
+use Rattle.model.specs.Choose.{total}
 use Rattle.model.specs.Orders.{totals_order}
 use Rattle.model.proofs.Choosing.{split, tests}
 use Rattle.script.specs.Text.{ascii, digits_within, decimal, spaced, line_of}
@@ -67,7 +67,7 @@ digits_enough (suc k) (suc j) n h g =
     split (ltb n 10) (λ q. rw q) (λ q. rw (q, digits_enough k j (n / 10) (omega tests) (omega tests)))
 
 -- The digits of a number go by the test whether it is below ten.
-decimal_step : (n : ℕ) → decimal n ≡ choose (ltb n 10) ((48 + n) ∷ []) (decimal (n / 10) ++ ((48 + n % 10) ∷ []))
+decimal_step : (n : ℕ) → decimal n ≡ (if ltb n 10 then (48 + n) ∷ [] else decimal (n / 10) ++ ((48 + n % 10) ∷ []))
 unfolding decimal
 decimal_step n =
     split (ltb n 10) (λ q. rw q) (λ q. rw (q, digits_enough n (suc (n / 10)) (n / 10) (omega tests) (omega arith)))

@@ -2,7 +2,6 @@
 -- Assumes nothing.
 use Rattle.std.specs.Prelude.{ℕ, zero, suc, List, [], ◌∷◌, leb, length, codes, if◌then◌else◌, Option, None, Some, Result}
 use Rattle.std.specs.Str.{bytes_eq}
-use Rattle.model.specs.Choose.{choose}
 use Rattle.model.specs.Numbers.{number_of, init_number_of, Numbered, in_numbers}
 use Rattle.script.specs.Text.{ascii, fields_of, number_in, line_of}
 use Rattle.script.specs.declared.command.Command.{Command}
@@ -36,7 +35,7 @@ command_of (w ∷ a ∷ b ∷ c ∷ d ∷ fs) = None
 
 -- A line is at most 80 bytes without its newline. `None` is a line that cannot be read.
 unfoldable pub read_line : List ℕ → Option Command
-read_line line = choose (leb (length line) 80) (command_of (fields_of line)) None
+read_line line = if leb (length line) 80 then command_of (fields_of line) else None
 
 -- Each reason has its number; 14 is a line that cannot be read.
 abbrev pub why_number : Why → ℕ

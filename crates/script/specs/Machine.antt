@@ -1,7 +1,6 @@
 -- What a script is carried out on, and what each command answers and leaves, for every state.
 -- Assumes nothing.
-use Rattle.std.specs.Prelude.{ℕ, ◌-◌, ◌*◌, false, not, List, [], ◌∷◌, ◌++◌, ltb, length, take, drop, set, replicate, Option, None, Some, Result, Ok, Err}
-use Rattle.model.specs.Choose.{either}
+use Rattle.std.specs.Prelude.{ℕ, ◌-◌, ◌*◌, false, not, ◌||◌, List, [], ◌∷◌, ◌++◌, ltb, length, take, drop, set, replicate, Option, None, Some, Result, Ok, Err}
 use Rattle.model.specs.Quantities.{is_arena, is_table}
 use Rattle.model.specs.Reasons.{bad_owner, bad_quota}
 use Rattle.model.specs.Orders.{Order, unless}
@@ -112,8 +111,8 @@ module _ (m : Machine) where
   -- For `make BYTES ROWS`: 11, 12, 13. 11 is also more bytes than 65,536 or than are lent, 12 more rows than are lent.
   unfoldable pub make_order : ℕ → ℕ → Order InitRefusal
   make_order b r =
-      (either (not (is_arena b)) (either (ltb most_bytes b) (ltb (length m.arena) b)), init_refusal.ArenaLength)
-      ∷ (either (not (is_table (4 * r))) (ltb (length m.table) (4 * r)), init_refusal.TableLength)
+      (not (is_arena b) || (ltb most_bytes b || ltb (length m.arena) b), init_refusal.ArenaLength)
+      ∷ (not (is_table (4 * r)) || ltb (length m.table) (4 * r), init_refusal.TableLength)
       ∷ bad_quota plan
       ∷ []
 

@@ -1,7 +1,6 @@
 -- What the functions of the crate promise for every input and every state.
 -- Assumes nothing.
-use Rattle.std.specs.Prelude.{ℕ, ◌+◌, ◌*◌, ◌≡◌, List, leb, length, take, Option, None, Some}
-use Rattle.model.specs.Choose.{choose}
+use Rattle.std.specs.Prelude.{ℕ, ◌+◌, ◌*◌, ◌≡◌, List, leb, length, take, Option, None, Some, if◌then◌else◌}
 use Rattle.script.specs.Text.{ended, unended, unless_empty, at_front}
 use Rattle.script.specs.Commands.{answer_most}
 use Rattle.script.specs.Machine.{Machine, machine}
@@ -30,8 +29,8 @@ module _ (s : Session) (words bytes input room : List ℕ) where
 
 -- A text, put at the front of a buffer that has at least so many bytes. A shorter buffer stays as it was, and that is answered.
 pub record WriteDone (text : List ℕ) (needed : ℕ) (room : List ℕ) (out : Option ℕ) (room_after : List ℕ) : Type 0 where
-  pub written : out ≡ choose (leb needed (length room)) (Some (length text)) None
-  pub buffer : room_after ≡ choose (leb needed (length room)) (at_front text room) room
+  pub written : out ≡ (if leb needed (length room) then Some (length text) else None)
+  pub buffer : room_after ≡ (if leb needed (length room) then at_front text room else room)
 
 -- What is written at the end has at most so many bytes: an answer, 512 rows of at most 50 bytes, and the totals, at most 50 bytes too.
 abbrev pub end_most : ℕ
@@ -46,7 +45,7 @@ module _ (s : Session) (words bytes room : List ℕ) where
   -- That line is carried out; if there is no room, nothing is.
   abbrev pub left : Machine
   left =
-      choose (leb end_most (length room)) (after_lines (machine s.script words bytes) (last_lines s)) (machine s.script words bytes)
+      if leb end_most (length room) then after_lines (machine s.script words bytes) (last_lines s) else machine s.script words bytes
 
   -- The text is put into the buffer, and the words and bytes are as the last line leaves them.
   pub record FinishDone (out : Option ℕ) (words_after bytes_after room_after : List ℕ) : Type 0 where

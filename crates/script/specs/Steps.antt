@@ -1,10 +1,9 @@
 -- What the functions within the crate answer and leave, step by step: a caller needs none of it.
 -- Assumes nothing.
-use Rattle.std.specs.Prelude.{ℕ, zero, suc, ◌+◌, ◌≡◌, List, [], ◌∷◌, ◌++◌, ltb, length, take, map, Option, None, Some}
+use Rattle.std.specs.Prelude.{ℕ, zero, suc, ◌+◌, ◌≡◌, List, [], ◌∷◌, ◌++◌, ltb, length, take, map, Option, None, Some, if◌then◌else◌}
 use Rattle.std.specs.Option.{option_map}
 use Rattle.std.specs.Borrow.{Bor}
 use Rattle.std.proofs.lemmas.List.Edits.{sets}
-use Rattle.model.specs.Choose.{choose}
 use Rattle.script.specs.Text.{at_front}
 use Rattle.script.specs.Session.{most_held, held_bytes}
 use Rattle.script.specs.declared.held.Held.{Held}
@@ -21,7 +20,7 @@ texts fs = map (option_map (λ f. f.now)) fs
 
 -- As many as are wanted, or none if fewer are lent.
 abbrev pub part_of : ℕ → ℕ → ℕ
-part_of n lent = choose (ltb lent n) 0 n
+part_of n lent = if ltb lent n then 0 else n
 
 -- A text is put into a buffer at a place, and the place after it is answered; every other byte stays.
 pub record Put (text buffer : List ℕ) (at next : ℕ) (after : List ℕ) : Type 0 where

@@ -1,9 +1,9 @@
 -- Bytes as text: the pieces between separators, and numbers in decimal digits, read and written.
 -- Assumes nothing.
-use Rattle.std.specs.Prelude.{ℕ, zero, suc, ◌+◌, ◌-◌, ◌*◌, ◌/◌, ◌%◌, Bool, List, [], ◌∷◌, ◌++◌, leb, ltb, eqb, length, drop, Option, None, Some}
+use Rattle.std.specs.Prelude.{ℕ, zero, suc, ◌+◌, ◌-◌, ◌*◌, ◌/◌, ◌%◌, Bool, if◌then◌else◌, ◌&&◌, List, [], ◌∷◌, ◌++◌, leb, ltb, eqb, length, drop, Option, None, Some}
+use Rattle.std.specs.List.{list_all}
 use Prim.Native.Char.{code}
 use Prim.Native.String.{String, len, char_at}
-use Rattle.model.specs.Choose.{choose, both, every}
 use Rattle.model.specs.Quantities.{within}
 
 -- The n characters of a text from place i on, as bytes.
@@ -23,7 +23,7 @@ prefixed p (f ∷ fs) = (p ++ f) ∷ fs
 -- A separator ends a piece and begins the next: there is one piece more than there are separators, and each may be empty.
 abbrev pub pieces : ℕ → List ℕ → List (List ℕ)
 pieces s [] = [] ∷ []
-pieces s (b ∷ bs) = choose (eqb b s) ([] ∷ pieces s bs) (prefixed (b ∷ []) (pieces s bs))
+pieces s (b ∷ bs) = if eqb b s then [] ∷ pieces s bs else prefixed (b ∷ []) (pieces s bs)
 
 -- The pieces that a separator ends are all but the last.
 abbrev pub ended : List (List ℕ) → List (List ℕ)
@@ -65,16 +65,16 @@ value_of ds = value_from 0 ds
 
 -- A number is 1 to 10 decimal digits, and at most 4,294,967,295.
 abbrev pub is_number : List ℕ → Bool
-is_number f = both (within 1 10 (length f)) (both (every is_digit f) (leb (value_of f) 4294967295))
+is_number f = within 1 10 (length f) && list_all is_digit f && leb (value_of f) 4294967295
 
 -- The number in a field, if there is one.
 unfoldable pub number_in : List ℕ → Option ℕ
-number_in f = choose (is_number f) (Some (value_of f)) None
+number_in f = if is_number f then Some (value_of f) else None
 
 -- The digits of n, the most significant first, at most k of them.
 abbrev pub digits_within : ℕ → ℕ → List ℕ
 digits_within zero n = []
-digits_within (suc k) n = choose (ltb n 10) ((48 + n) ∷ []) (digits_within k (n / 10) ++ ((48 + n % 10) ∷ []))
+digits_within (suc k) n = if ltb n 10 then (48 + n) ∷ [] else digits_within k (n / 10) ++ ((48 + n % 10) ∷ [])
 
 -- A number is written in decimal digits with no zero before it; n has at most n + 1 of them.
 unfoldable pub decimal : ℕ → List ℕ

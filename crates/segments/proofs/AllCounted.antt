@@ -1,8 +1,9 @@
 -- The rows counted one after the other: what they say of all rows with those that are left, and the figures of all.
 -- Assumes nothing.
 use Rattle.std.proofs.Common.{◌≡◌, ℕ, ◌+◌, ◌-◌, ◌≤◌, max, Bool, true, false, not, eqb, List, [], ◌∷◌, length, get_or, set, sym, ◌∙◌, arith, get_or-set_other, get_or-set_same, eq-eqb, ne_eqb, le-leb}
-use Rattle.std.specs.Prelude.{Some, None}
-use Rattle.model.specs.Choose.{both, every, only, total, largest}
+use Rattle.std.specs.Prelude.{Some, None, ◌&&◌, filter}
+use Rattle.std.specs.List.{list_all}
+use Rattle.model.specs.Choose.{total, largest}
 use Rattle.model.specs.Quantities.{Config}
 use Rattle.model.specs.Allocation.{granules_of, owned_by}
 use Rattle.model.specs.SegmentMap.{is_free, is_live}
@@ -23,14 +24,14 @@ length_of x = x.length
 
 -- Each owner's figure of all is the one counted with what the rows left add.
 abbrev Sums : (Segment → ℕ) → List ℕ → List Segment → List Segment → Type 0
-Sums f l xs all = (o : ℕ) → 1 ≤ o → o ≤ 8 → total f (owned_by o (only is_live all)) ≡ get_or l (o - 1) 0 + total f (owned_by o (only is_live xs))
+Sums f l xs all = (o : ℕ) → 1 ≤ o → o ≤ 8 → total f (owned_by o (filter is_live all)) ≡ get_or l (o - 1) 0 + total f (owned_by o (filter is_live xs))
 
 -- The figures with a block's are the sums with that block.
 more_sums : (f : Segment → ℕ) (l : List ℕ) (x : Segment) (xs all : List Segment) → is_free x ≡ false → 1 ≤ x.owner → x.owner ≤ 8 → length l ≡ 8
     → Sums f l (x ∷ xs) all → Sums f (set l (x.owner - 1) (get_or l (x.owner - 1) 0 + f x)) xs all
 more_sums f l x xs all v h m e s o a b =
     let v' : ℕ = get_or l (x.owner - 1) 0 + f x in
-    let before : total f (owned_by o (only is_live all)) ≡ get_or l (o - 1) 0 + total f (owned_by o (x ∷ only is_live xs)) = rw v at (s o a b) in
+    let before : total f (owned_by o (filter is_live all)) ≡ get_or l (o - 1) 0 + total f (owned_by o (x ∷ filter is_live xs)) = rw v at (s o a b) in
     before
     ∙ split (eqb x.owner o)
     (λ q. let z : o - 1 ≡ x.owner - 1 = omega tests in rw (q, z, get_or-set_same l (x.owner - 1) v' 0 (omega arith)) (omega arith))
@@ -38,13 +39,13 @@ more_sums f l x xs all v h m e s o a b =
 
 -- The rows xs are the end of a map, from s on, after a row that is free or not.
 abbrev goes_on : Config → ℕ → Bool → List Segment → Bool
-goes_on c s b xs = both (tiles s c.granules xs) (both (every (well_formed c) xs) (apart_from b xs))
+goes_on c s b xs = tiles s c.granules xs && list_all (well_formed c) xs && apart_from b xs
 
 -- Of all rows those before xs are counted: xs decide whether all are a map, and the figures of all are those counted with what xs add.
 pub record Ahead (c : Config) (k : Census) (xs all : List Segment) : Type 0 where
   pub map : is_map c all ≡ goes_on c k.end k.after_free xs
-  pub used : granules_of (only is_live all) ≡ k.used + granules_of (only is_live xs)
-  pub longest : largest length_of (only is_free all) ≡ max k.longest (largest length_of (only is_free xs))
+  pub used : granules_of (filter is_live all) ≡ k.used + granules_of (filter is_live xs)
+  pub longest : largest length_of (filter is_free all) ≡ max k.longest (largest length_of (filter is_free xs))
   pub blocks : Sums (λ (x : Segment). 1) k.blocks xs all
   pub held : Sums length_of k.held xs all
 
@@ -65,14 +66,14 @@ module _ (c : Config) (k : Census) (x : Segment) (xs all : List Segment) (a : Ah
   unfolding follows_of
   first_follows q =
       let t : tiles k.end c.granules (x ∷ xs) ≡ true = search parts in
-      let w : every (well_formed c) (x ∷ xs) ≡ true = search parts in
-      let n : not (both k.after_free (is_free x)) ≡ true = search parts in
+      let w : list_all (well_formed c) (x ∷ xs) ≡ true = search parts in
+      let n : not (k.after_free && is_free x) ≡ true = search parts in
       let f : First k.end c.granules x xs = first k.end c.granules x xs t in
       let e : x.start + x.length ≤ c.granules = tiles_le (x.start + x.length) c.granules xs f.rest in
-      both_true _ _ (eq-eqb x.start k.end f.start)
-      (both_true _ _ (le-leb 1 x.length f.some)
-      (both_true _ _ (le-leb x.length (c.granules - k.end) (omega arith))
-      (both_true _ _ (every_head (well_formed c) x xs w) n)))
+      both_true _ _ (both_true _ _ (both_true _ _ (both_true _ _ (eq-eqb x.start k.end f.start) (le-leb 1 x.length f.some))
+      (le-leb x.length (c.granules - k.end) (omega arith)))
+      (every_head (well_formed c) x xs w))
+      n
 
   -- If the first follows, the others say whether all of them are.
   rest_goes_on : Follows c k x → (b : Bool) → is_free x ≡ b → goes_on c (k.end + x.length) b xs ≡ goes_on c k.end k.after_free (x ∷ xs)
@@ -121,7 +122,7 @@ module _ (c : Config) (xs : List Segment) (k : Census) (a : Ahead c k [] xs) whe
           bounded = b;
           used = sym (a.used ∙ omega arith);
           longest = rw (map_is c xs m) (omega (arith, a.longest));
-          blocks = λ o i j. sym (rw (length_total (owned_by o (only is_live xs))) (a.blocks o i j ∙ omega arith));
+          blocks = λ o i j. sym (rw (length_total (owned_by o (filter is_live xs))) (a.blocks o i j ∙ omega arith));
           held = λ o i j. sym (a.held o i j ∙ omega arith);
         };
       }

@@ -1,11 +1,11 @@
 -- The free run around a row that is given back, and the map with a block in place of the one in that row.
 -- Assumes nothing.
 use Rattle.std.proofs.Common.{◌≡◌, ℕ, ◌+◌, ◌-◌, ◌%◌, ◌<◌, ◌≤◌, Bool, true, false, not, eqb, ltb, leb, List, [], ◌∷◌, ◌++◌, length, take, drop, sym, refl, ap, ◌∙◌, subst, append_assoc, append-nil, arith, length-append, take_at, eqb-true, le-leb}
-use Rattle.std.specs.Prelude.{Option, Some}
+use Rattle.std.specs.Prelude.{Option, Some, if◌then◌else◌, ◌&&◌, filter, find}
+use Rattle.std.specs.List.{list_all}
 use Rattle.std.specs.Option.{option_map}
 use lib.Seq.{append_snoc}
 use borrow.Author.Tests.{lt-leb}
-use Rattle.model.specs.Choose.{choose, both, every, only, first_of}
 use Rattle.model.specs.Quantities.{Config}
 use Rattle.model.specs.Allocation.{clear_of, room, insert, offset, has_granule, block_over}
 use Rattle.model.specs.SegmentMap.{is_free, is_live, free_run, gap, map_of, rows_of}
@@ -38,14 +38,14 @@ around_bounds c xs i h m =
     let t : tiles 0 c.granules xs ≡ true = search parts in
     let x : Segment = nth_row xs i in
     let from : run_from xs i ≤ x.start =
-    split (both (ltb 0 i) (is_free (nth_row xs (i - 1))))
+    split (ltb 0 i && is_free (nth_row xs (i - 1)))
     (λ q. let k : ltb 0 i ≡ true = search parts in
     let z : i - 1 + 1 ≡ i = omega tests in
     let next = rw z at (row_next 0 c.granules xs t (i - 1) (omega tests)) in
     rw q (omega arith))
     (λ q. rw q (omega arith)) in
     let to : (x.start + x.length ≤ run_to xs i) × (run_to xs i ≤ c.granules) =
-    split (both (ltb (i + 1) (length xs)) (is_free (nth_row xs (i + 1))))
+    split (ltb (i + 1) (length xs) && is_free (nth_row xs (i + 1)))
     (λ q. let k : ltb (i + 1) (length xs) ≡ true = search parts in
     rw q (omega (arith, row_next 0 c.granules xs t i (omega tests)), row_inside c xs (i + 1) m (omega tests)))
     (λ q. rw q (omega arith, row_inside c xs i m h)) in
@@ -67,9 +67,9 @@ segment_over c xs g j m h k =
     ap (block_over g) e ∙ over_parted c (take j xs) (drop (j + 1) xs) (nth_row xs j) g (subst (λ r. is_map c r ≡ true) e m) k
 
 -- those of which a test fails may be left out
-first_skip : (p : Segment → Bool) (xs ys zs : List Segment) → every (λ (x : Segment). not (p x)) ys ≡ true → first_of p (xs ++ (ys ++ zs)) ≡ first_of p (xs ++ zs)
+first_skip : (p : Segment → Bool) (xs ys zs : List Segment) → list_all (λ (x : Segment). not (p x)) ys ≡ true → find p (xs ++ (ys ++ zs)) ≡ find p (xs ++ zs)
 first_skip p [] ys zs e = first_back p ys zs e
-first_skip p (x ∷ xs) ys zs e = ap (choose (p x) (Some x)) (first_skip p xs ys zs e)
+first_skip p (x ∷ xs) ys zs e = ap (if◌then◌else◌ (p x) (Some x)) (first_skip p xs ys zs e)
 
 -- the last of a list
 abbrev last_of : Segment → List Segment → Segment
@@ -81,14 +81,14 @@ last_of_lem d [] y = refl
 last_of_lem d (x ∷ xs) y = last_of_lem x xs y
 
 -- where the free row begins that ends a list, if there is one
-from_row : (before left : List Segment) (p s : ℕ) (ys : List Segment) (r : Segment) → tiles p s left ≡ true → every is_free left ≡ true → length left ≤ 1
-    → last_free false before ≡ false → ys ++ (r ∷ []) ≡ before ++ left → p ≡ choose (is_free r) r.start s
+from_row : (before left : List Segment) (p s : ℕ) (ys : List Segment) (r : Segment) → tiles p s left ≡ true → list_all is_free left ≡ true → length left ≤ 1
+    → last_free false before ≡ false → ys ++ (r ∷ []) ≡ before ++ left → p ≡ (if is_free r then r.start else s)
 from_row before [] p s ys r t f k l e =
     let q : is_free r ≡ false = sym (last_end false ys r) ∙ ap (last_free false) (e ∙ append-nil before) ∙ l in rw q (eqb-true p s t)
 from_row before (y ∷ []) p s ys r t f k l e =
     let z : y ≡ r = sym (last_of_lem r before y) ∙ ap (last_of r) (sym e) ∙ last_of_lem r ys r in
     let q : is_free y ≡ true = every_head is_free y [] f in
-    subst (λ (u : Segment). p ≡ choose (is_free u) u.start s) z (rw q (sym (first p s y [] t).start))
+    subst (λ (u : Segment). p ≡ (if is_free u then u.start else s)) z (rw q (sym (first p s y [] t).start))
 from_row before (y ∷ z ∷ zs) p s ys r t f k l e = absurd (omega arith)
 
 from_none : (before left : List Segment) (p s : ℕ) → tiles p s left ≡ true → [] ≡ before ++ left → p ≡ s
@@ -96,13 +96,13 @@ from_none before [] p s t e = eqb-true p s t
 from_none before (y ∷ ys) p s t e = absurd (omega (arith, ap length e, length-append before (y ∷ ys)))
 
 -- where the free row ends that begins a list, if there is one
-to_row : (right after : List Segment) (s p : ℕ) (r : Segment) (zs : List Segment) → tiles s p right ≡ true → every is_free right ≡ true → length right ≤ 1
-    → first_free after ≡ false → r ∷ zs ≡ right ++ after → p ≡ choose (is_free r) (r.start + r.length) s
+to_row : (right after : List Segment) (s p : ℕ) (r : Segment) (zs : List Segment) → tiles s p right ≡ true → list_all is_free right ≡ true → length right ≤ 1
+    → first_free after ≡ false → r ∷ zs ≡ right ++ after → p ≡ (if is_free r then r.start + r.length else s)
 to_row [] after s p r zs t f k l e = let q : is_free r ≡ false = ap first_free e ∙ l in rw q (sym (eqb-true s p t))
 to_row (y ∷ []) after s p r zs t f k l e =
     let z : y ≡ r = cc in
     let q : is_free y ≡ true = every_head is_free y [] f in
-    subst (λ (u : Segment). p ≡ choose (is_free u) (u.start + u.length) s) z (rw q (sym (eqb-true (y.start + y.length) p (first s p y [] t).rest)))
+    subst (λ (u : Segment). p ≡ (if is_free u then u.start + u.length else s)) z (rw q (sym (eqb-true (y.start + y.length) p (first s p y [] t).rest)))
 to_row (y ∷ z ∷ ws) after s p r zs t f k l e = absurd (omega arith)
 
 to_none : (right after : List Segment) (s p : ℕ) → tiles s p right ≡ true → [] ≡ right ++ after → p ≡ s
@@ -199,20 +199,20 @@ module _ (c : Config) (xs : List Segment) (i : ℕ) (h : i < length xs) (m : is_
 
   -- The other blocks are in order, and their map is one.
   pub ordered : Ordered c 0 (others xs i)
-  ordered = only_ordered c (λ (b : Segment). not (eqb (offset b) (offset row))) 0 (only is_live xs) (map_ordered c xs m)
+  ordered = only_ordered c (λ (b : Segment). not (eqb (offset b) (offset row))) 0 (filter is_live xs) (map_ordered c xs m)
 
   pub map_others : is_map c (map_of c (others xs i)) ≡ true
   map_others = is_map_lem c (others xs i) ordered
 
   -- Over a granule of the map without that row stands the free run if it has the granule, and else what stood there.
-  pub over_around : (g : ℕ) → block_over g (map_of c (others xs i)) ≡ choose (has_granule g (run_around xs i)) (Some (run_around xs i)) (block_over g xs)
+  pub over_around : (g : ℕ) → block_over g (map_of c (others xs i)) ≡ (if has_granule g (run_around xs i) then Some (run_around xs i) else block_over g xs)
   over_around g =
       let a : Around = around in
       let run : Segment = run_around xs i in
       let old : List Segment = a.left ++ (row ∷ a.right) in
       split (has_granule g run)
       (λ q. rw q (ap (block_over g) a.map ∙ over_parted c a.before a.after run g (subst (λ r. is_map c r ≡ true) a.map map_others) q))
-      (λ q. let gone : every (lacks g) old ≡ true =
+      (λ q. let gone : list_all (lacks g) old ≡ true =
       split (ltb g from)
       (λ p. lacks_before from to g old a.filled (omega tests))
       (λ p. split (ltb g to)
@@ -229,16 +229,16 @@ module _ (c : Config) (xs : List Segment) (i : ℕ) (h : i < length xs) (m : is_
       let a : Around = around in
       let bounds = around_bounds c xs i h m in
       let clear : Segment → Bool = clear_of row.start g in
-      let e : others xs i ≡ only is_live a.before ++ only is_live a.after =
-      sym (live_map c 0 (others xs i) ordered) ∙ ap (only is_live) a.map ∙ only_append is_live a.before (run_around xs i ∷ a.after) in
+      let e : others xs i ≡ filter is_live a.before ++ filter is_live a.after =
+      sym (live_map c 0 (others xs i) ordered) ∙ ap (filter is_live) a.map ∙ only_append is_live a.before (run_around xs i ∷ a.after) in
       rw e
-      (same_test (both (leb (row.start + g) c.granules) (every clear (only is_live a.before ++ only is_live a.after))) (leb (row.start + g) to)
+      (same_test (leb (row.start + g) c.granules && list_all clear (filter is_live a.before ++ filter is_live a.after)) (leb (row.start + g) to)
       (λ p. let inside : leb (row.start + g) c.granules ≡ true = search parts in
-      let all : every clear (only is_live a.before ++ only is_live a.after) ≡ true = search parts in
+      let all : list_all clear (filter is_live a.before ++ filter is_live a.after) ≡ true = search parts in
       le-leb (row.start + g) to
-      (clear_end row.start g to c.granules a.after a.back a.after_live (every_back clear (only is_live a.before) (only is_live a.after) all) (omega (arith, a.some)) (omega tests)))
-      (λ p. both_true (leb (row.start + g) c.granules) (every clear (only is_live a.before ++ only is_live a.after)) (le-leb (row.start + g) c.granules (omega tests))
-      (every_append clear (only is_live a.before) (only is_live a.after)
+      (clear_end row.start g to c.granules a.after a.back a.after_live (every_back clear (filter is_live a.before) (filter is_live a.after) all) (omega (arith, a.some)) (omega tests)))
+      (λ p. both_true (leb (row.start + g) c.granules) (list_all clear (filter is_live a.before ++ filter is_live a.after)) (le-leb (row.start + g) c.granules (omega tests))
+      (every_append clear (filter is_live a.before) (filter is_live a.after)
       (every_only clear is_live a.before (every_weaker (ends_by from) clear (λ y k. after_clear row.start g y (omega tests)) a.before (tiles_end 0 from a.before a.front)))
       (every_only clear is_live a.after (every_weaker (starts_from to) clear (λ y k. before_clear row.start g y (omega tests)) a.after (tiles_from to to c.granules a.after (omega arith) a.back))))))
 
@@ -248,7 +248,7 @@ module _ (c : Config) (xs : List Segment) (i : ℕ) (h : i < length xs) (m : is_
 
   -- What first fit finds on 16 bytes, for a base with the same remainder by 16, is where the block goes.
   pub refit_goes : (g : ℕ) → to < row.start + g → (f : Option Place) (b : ℕ) → c.base % 16 ≡ b % 16 → Found (at_base b c) xs g 16 f → option_map (λ p. p.start) f ≡ refit_start c xs i g
-  refit_goes g k f b e w = rw (stays_around g ∙ lt-leb (row.start + g) to k) (sym w.lowest ∙ sym (lowest_alike c b 16 e (only is_live xs) g))
+  refit_goes g k f b e w = rw (stays_around g ∙ lt-leb (row.start + g) to k) (sym w.lowest ∙ sym (lowest_alike c b 16 e (filter is_live xs) g))
 
   -- Without that row there are fewer rows, by one less than the free run is cut into for it.
   pub around_count : rows_of c (others xs i) + length (cut (run_around xs i) row) ≡ length xs + 1

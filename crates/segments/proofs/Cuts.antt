@@ -2,7 +2,7 @@
 -- Assumes nothing.
 use Rattle.std.proofs.Common.{◌≡◌, ℕ, ◌+◌, ◌-◌, ◌<◌, ◌≤◌, true, false, List, [], ◌∷◌, ◌++◌, length, take, drop, sym, refl, ap, ◌∙◌, append_assoc, arith, length-append, take-append-drop, take_at, drop_at, le-ltb, lt-ltb}
 use lib.Seq.{drop-append-add}
-use Rattle.model.specs.Choose.{both}
+use Rattle.std.specs.Prelude.{◌&&◌}
 use Rattle.model.specs.Allocation.{granules_of}
 use Rattle.model.specs.SegmentMap.{is_free, free_run, gap}
 use Rattle.model.proofs.Choosing.{split}
@@ -79,7 +79,7 @@ module _ (f : List Segment → List Segment) (i : ℕ) (xs : List Segment) where
 granules_join_first : (xs : List Segment) → granules_of (join_first xs) ≡ granules_of xs
 granules_join_first [] = refl
 granules_join_first (x ∷ []) = refl
-granules_join_first (x ∷ y ∷ ys) = split (both (is_free x) (is_free y)) (λ q. rw q (omega arith)) (λ q. rw q)
+granules_join_first (x ∷ y ∷ ys) = split (is_free x && is_free y) (λ q. rw q (omega arith)) (λ q. rw q)
 
 granules_free_first : (xs : List Segment) → granules_of (free_first xs) ≡ granules_of xs
 granules_free_first [] = refl
@@ -89,7 +89,7 @@ length_join_first : (xs : List Segment) → (k : ℕ) × (k ≤ 1) × (length (j
 length_join_first [] = (0, omega arith, omega arith)
 length_join_first (x ∷ []) = (0, omega arith, omega arith)
 length_join_first (x ∷ y ∷ ys) =
-    split (both (is_free x) (is_free y)) (λ q. rw q (1, omega arith, omega arith)) (λ q. rw q (0, omega arith, omega arith))
+    split (is_free x && is_free y) (λ q. rw q (1, omega arith, omega arith)) (λ q. rw q (0, omega arith, omega arith))
 
 length_free_first : (xs : List Segment) → length (free_first xs) + 0 ≡ length xs
 length_free_first [] = refl

@@ -2,7 +2,7 @@
 -- Assumes nothing.
 use Rattle.std.proofs.Common.{◌≡◌, ℕ, ◌+◌, ◌-◌, ◌*◌, ◌≤◌, true, false, not, eqb, leb, sym, ◌∙◌, arith, eq-eqb, ne_eqb, le-leb}
 use borrow.Author.Tests.{not-true}
-use Rattle.model.specs.Choose.{both}
+use Rattle.std.specs.Prelude.{◌&&◌}
 use Rattle.model.specs.Quantities.{within, Config}
 use Rattle.model.specs.Allocation.{granules_for, needed}
 use Rattle.model.specs.SegmentMap.{is_free}
@@ -27,7 +27,7 @@ pub record Follows (c : Config) (k : Census) (x : Segment) : Type 0 where
   pub most : x.length ≤ c.granules - k.end
   pub formed : well_formed c x ≡ true
   pub owner : x.owner ≤ 8
-  pub apart : both k.after_free (is_free x) ≡ false
+  pub apart : (k.after_free && is_free x) ≡ false
   pub touch : x.owner ≡ 0 → k.after_free ≡ false
   pub requested : (x.owner ≡ 0 → ⊥) → 1 ≤ x.requested
 
@@ -41,8 +41,8 @@ module _ (c : Config) (k : Census) (x : Segment) where
       let d : leb x.length (c.granules - k.end) ≡ true = search parts in
       let w : well_formed c x ≡ true = search parts in
       let o : leb x.owner 8 ≡ true = search parts in
-      let n : not (both k.after_free (is_free x)) ≡ true = search parts in
-      let m : both k.after_free (is_free x) ≡ false = not-true (both k.after_free (is_free x)) n in
+      let n : not (k.after_free && is_free x) ≡ true = search parts in
+      let m : (k.after_free && is_free x) ≡ false = not-true (k.after_free && is_free x) n in
       let r : requested_fits c x ≡ true = search parts in
       record {
         start = omega tests;
@@ -62,7 +62,7 @@ module _ (c : Config) (k : Census) (x : Segment) where
 
   module _ (a : x.start ≡ k.end) (b : 1 ≤ x.length) (d : x.length ≤ c.granules - k.end) where
     -- A row at its place, of a known owner and not the second free one of two that touch, follows if its bytes requested fit.
-    follows_fits : x.owner ≤ 8 → both k.after_free (is_free x) ≡ false → requested_fits c x ≡ follows_of c k x
+    follows_fits : x.owner ≤ 8 → (k.after_free && is_free x) ≡ false → requested_fits c x ≡ follows_of c k x
     unfolding follows_of
     follows_fits o n =
         rw (eq-eqb x.start k.end a, le-leb 1 x.length b, le-leb x.length (c.granules - k.end) d, le-leb 0 x.owner (omega arith), le-leb x.owner 8 o, n)

@@ -1,7 +1,8 @@
 -- The map of a set of blocks: it tiles the arena, its segments are well formed, no two free ones touch, and its live ones are the blocks.
 -- Assumes nothing.
 use Rattle.std.proofs.Common.{◌≡◌, ℕ, ◌+◌, ◌-◌, ◌*◌, ◌<◌, ◌≤◌, true, false, eqb, ltb, List, [], ◌∷◌, ◌++◌, length, refl, ap, subst, arith, length-append, eq-eqb, ne_eqb, le-leb}
-use Rattle.model.specs.Choose.{every, only}
+use Rattle.std.specs.Prelude.{filter}
+use Rattle.std.specs.List.{list_all}
 use Rattle.model.specs.Quantities.{Config}
 use Rattle.model.specs.SegmentMap.{is_live, free_run, gap, map_from, map_of}
 use Rattle.model.proofs.Choosing.{split, tests, both_true, every_append, only_append}
@@ -9,10 +10,10 @@ use Rattle.model.proofs.Ordered.{Live, Ordered, long}
 use Rattle.segments.specs.Tiling.{tiles, well_formed, no_two_free, is_map}
 use Rattle.model.specs.declared.Segment.{Segment}
 
-pub gap_free : (s e : ℕ) → only is_live (gap s e) ≡ []
+pub gap_free : (s e : ℕ) → filter is_live (gap s e) ≡ []
 gap_free s e = split (ltb s e) (λ q. rw q) (λ q. rw q)
 
-pub gap_formed : (c : Config) (s e : ℕ) → every (well_formed c) (gap s e) ≡ true
+pub gap_formed : (c : Config) (s e : ℕ) → list_all (well_formed c) (gap s e) ≡ true
 gap_formed c s e = split (ltb s e) (λ q. rw q) (λ q. rw q)
 
 pub rows_least_lem : (e : ℕ) (bs : List Segment) → 1 ≤ e → 1 ≤ length (map_from e 0 bs)
@@ -43,7 +44,7 @@ module _ (c : Config) where
   pub owner_not_0 : (b : Segment) → Live c b → eqb b.owner 0 ≡ false
   owner_not_0 b l = ne_eqb b.owner 0 (omega arith)
 
-  pub live_map : (s : ℕ) (bs : List Segment) → Ordered c s bs → only is_live (from s bs) ≡ bs
+  pub live_map : (s : ℕ) (bs : List Segment) → Ordered c s bs → filter is_live (from s bs) ≡ bs
   live_map s [] o = gap_free s c.granules
   live_map s (b ∷ bs) o =
       rw (only_append is_live (gap s b.start) (b ∷ from (b.start + b.length) bs), gap_free s b.start, owner_not_0 b o.1)
@@ -61,11 +62,11 @@ module _ (c : Config) where
   live_formed b l =
       rw (le-leb 0 b.owner (omega arith), le-leb b.owner 8 l.known, owner_not_0 b l, le-leb (16 * (b.length - c.guards - 1) + 1) b.requested (omega (arith, l.sized)), le-leb b.requested (16 * (b.length - c.guards)) (omega (arith, l.sized)))
 
-  pub map_formed : (s : ℕ) (bs : List Segment) → Ordered c s bs → every (well_formed c) (from s bs) ≡ true
+  pub map_formed : (s : ℕ) (bs : List Segment) → Ordered c s bs → list_all (well_formed c) (from s bs) ≡ true
   map_formed s [] o = gap_formed c s c.granules
   map_formed s (b ∷ bs) o =
       every_append (well_formed c) (gap s b.start) (b ∷ from (b.start + b.length) bs) (gap_formed c s b.start)
-      (both_true (well_formed c b) (every (well_formed c) (from (b.start + b.length) bs)) (live_formed b o.1) (map_formed (b.start + b.length) bs o.2))
+      (both_true (well_formed c b) (list_all (well_formed c) (from (b.start + b.length) bs)) (live_formed b o.1) (map_formed (b.start + b.length) bs o.2))
 
   -- no two free runs of it meet
   live_first : (b : Segment) (ss : List Segment) → Live c b → no_two_free ss ≡ true → no_two_free (b ∷ ss) ≡ true
@@ -83,4 +84,4 @@ module _ (c : Config) where
 
   -- The map of a set of blocks is a map.
   pub is_map_lem : (bs : List Segment) → Ordered c 0 bs → is_map c (map_of c bs) ≡ true
-  is_map_lem bs o = both_true _ _ (tiles_map 0 bs o) (both_true _ _ (map_formed 0 bs o) (map_apart 0 bs o))
+  is_map_lem bs o = both_true _ _ (both_true _ _ (tiles_map 0 bs o) (map_formed 0 bs o)) (map_apart 0 bs o)

@@ -1,7 +1,8 @@
 -- Segments that tile, joined and parted; a window of a map, and the map with other rows in it.
 -- Assumes nothing.
 use Rattle.std.proofs.Common.{◌≡◌, ℕ, ◌+◌, ◌≤◌, Bool, true, false, ltb, leb, List, [], ◌∷◌, ◌++◌, sym, refl, ap, ◌∙◌, subst, arith, lt-ltb, eq-eqb, eqb-true, le-leb}
-use Rattle.model.specs.Choose.{every, only}
+use Rattle.std.specs.Prelude.{filter}
+use Rattle.std.specs.List.{list_all}
 use Rattle.model.specs.Quantities.{Config}
 use Rattle.model.specs.SegmentMap.{is_free, is_live, map_of}
 use Rattle.model.specs.Allocation.{granules_of}
@@ -40,13 +41,13 @@ abbrev pub starts_from : ℕ → Segment → Bool
 starts_from s x = leb s x.start
 
 -- the segments of a tiling begin before its end, and from its start on
-pub tiles_before : (s e : ℕ) (xs : List Segment) → tiles s e xs ≡ true → every (starts_before e) xs ≡ true
+pub tiles_before : (s e : ℕ) (xs : List Segment) → tiles s e xs ≡ true → list_all (starts_before e) xs ≡ true
 tiles_before s e [] t = refl
 tiles_before s e (x ∷ xs) t =
     let f : First s e x xs = first s e x xs t in
     both_true _ _ (lt-ltb x.start e (omega (arith, tiles_le (x.start + x.length) e xs f.rest))) (tiles_before (x.start + x.length) e xs f.rest)
 
-pub tiles_from : (s t e : ℕ) (xs : List Segment) → s ≤ t → tiles t e xs ≡ true → every (starts_from s) xs ≡ true
+pub tiles_from : (s t e : ℕ) (xs : List Segment) → s ≤ t → tiles t e xs ≡ true → list_all (starts_from s) xs ≡ true
 tiles_from s t e [] h g = refl
 tiles_from s t e (x ∷ xs) h g =
     let f : First t e x xs = first t e x xs g in
@@ -71,14 +72,14 @@ module _ (c : Config) (before old after : List Segment) where
     pub front : tiles 0 from before ≡ true
     pub filled : tiles from to old ≡ true
     pub back : tiles to c.granules after ≡ true
-    pub formed_front : every (well_formed c) before ≡ true
-    pub formed_back : every (well_formed c) after ≡ true
+    pub formed_front : list_all (well_formed c) before ≡ true
+    pub formed_back : list_all (well_formed c) after ≡ true
     pub apart : apart_from false (before ++ (old ++ after)) ≡ true
 
   pub window : is_map c (before ++ (old ++ after)) ≡ true → Window
   window m =
       let t : tiles 0 c.granules (before ++ (old ++ after)) ≡ true = search parts in
-      let w : every (well_formed c) (before ++ (old ++ after)) ≡ true = search parts in
+      let w : list_all (well_formed c) (before ++ (old ++ after)) ≡ true = search parts in
       let n : no_two_free (before ++ (old ++ after)) ≡ true = search parts in
       let p : Parted 0 c.granules before (old ++ after) = part 0 c.granules before (old ++ after) t in
       let q : Parted p.at c.granules old after = part p.at c.granules old after p.back in
@@ -94,14 +95,14 @@ module _ (c : Config) (before old after : List Segment) where
       }
 
   -- Other rows that fill the window, with no free row next to it, make the map of their live ones and those around.
-  pub refilled : (w : Window) (new : List Segment) → tiles w.from w.to new ≡ true → every (well_formed c) new ≡ true → apart_from false new ≡ true
+  pub refilled : (w : Window) (new : List Segment) → tiles w.from w.to new ≡ true → list_all (well_formed c) new ≡ true → apart_from false new ≡ true
       → last_free false before ≡ false → first_free after ≡ false
-      → map_of c (only is_live before ++ (only is_live new ++ only is_live after)) ≡ before ++ (new ++ after)
+      → map_of c (filter is_live before ++ (filter is_live new ++ filter is_live after)) ≡ before ++ (new ++ after)
   refilled w new t f a l r =
       let xs : List Segment = before ++ (new ++ after) in
       let tt : tiles 0 c.granules xs ≡ true =
       tiles_join 0 w.from c.granules before (new ++ after) w.front (tiles_join w.from w.to c.granules new after t w.back) in
-      let ff : every (well_formed c) xs ≡ true =
+      let ff : list_all (well_formed c) xs ≡ true =
       every_append (well_formed c) before (new ++ after) w.formed_front (every_append (well_formed c) new after f w.formed_back) in
       let b : apart_from (last_free (last_free false before) old) after ≡ true = apart_back (last_free false before) old after (apart_back false before (old ++ after) w.apart) in
       let aa : apart_from false xs ≡ true =
@@ -115,8 +116,8 @@ pub record Row (c : Config) (ys : List Segment) (x : Segment) (zs : List Segment
   pub start : place.from ≡ x.start
   pub end : place.to ≡ x.start + x.length
   pub some : 1 ≤ x.length
-  pub lower : every (starts_before x.start) ys ≡ true
-  pub higher : every (starts_from (x.start + x.length)) zs ≡ true
+  pub lower : list_all (starts_before x.start) ys ≡ true
+  pub higher : list_all (starts_from (x.start + x.length)) zs ≡ true
   pub apart : apart_from (last_free false ys) (x ∷ zs) ≡ true
   pub apart_after : apart_from (is_free x) zs ≡ true
 
@@ -131,7 +132,7 @@ row_of c ys x zs m =
       start = sym f.start;
       end = sym e;
       some = f.some;
-      lower = subst (λ (k : ℕ). every (starts_before k) ys ≡ true) (sym f.start) (tiles_before 0 w.from ys w.front);
+      lower = subst (λ (k : ℕ). list_all (starts_before k) ys ≡ true) (sym f.start) (tiles_before 0 w.from ys w.front);
       higher = tiles_from (x.start + x.length) w.to c.granules zs (omega arith) w.back;
       apart = a;
       apart_after = apart_back (last_free false ys) (x ∷ []) zs a;

@@ -1,7 +1,7 @@
 -- The rows in use read one after the other, and how far those of a tiling reach.
 -- Assumes nothing.
 use Rattle.std.proofs.Common.{◌≡◌, ℕ, zero, suc, ◌+◌, ◌*◌, ◌<◌, ◌≤◌, Bool, true, leb, List, [], ◌∷◌, ◌++◌, length, get_or, take, drop, sym, refl, ap, ◌∙◌, arith, take-append-drop, drop_of_length-le, length-take-le, get_or-drop, eqb-true, le-leb, leb-true}
-use Rattle.model.specs.Choose.{every}
+use Rattle.std.specs.List.{list_all}
 use Rattle.model.proofs.Choosing.{tests, every_head, every_tail}
 use Rattle.segments.specs.Rows.{segment_at, segments_in, nth_row}
 use Rattle.segments.specs.Tiling.{tiles}
@@ -43,7 +43,7 @@ pub rows_before : (xs : List Segment) (i : ℕ) → i < length xs → length (ta
 rows_before xs i h = length-take-le i xs (omega arith)
 
 -- what holds of every segment holds of each row
-pub every_row : (p : Segment → Bool) (xs : List Segment) (i : ℕ) → i < length xs → every p xs ≡ true → p (nth_row xs i) ≡ true
+pub every_row : (p : Segment → Bool) (xs : List Segment) (i : ℕ) → i < length xs → list_all p xs ≡ true → p (nth_row xs i) ≡ true
 every_row p [] i h e = absurd (omega arith)
 every_row p (x ∷ xs) zero h e = every_head p x xs e
 every_row p (x ∷ xs) (suc i) h e = every_row p xs i (omega arith) (every_tail p x xs e)
@@ -58,7 +58,7 @@ tiles_le s e (x ∷ xs) t =
 abbrev pub ends_by : ℕ → Segment → Bool
 ends_by e x = leb (x.start + x.length) e
 
-pub tiles_end : (s e : ℕ) (xs : List Segment) → tiles s e xs ≡ true → every (ends_by e) xs ≡ true
+pub tiles_end : (s e : ℕ) (xs : List Segment) → tiles s e xs ≡ true → list_all (ends_by e) xs ≡ true
 tiles_end s e [] t = refl
 tiles_end s e (x ∷ xs) t =
     let f : First s e x xs = first s e x xs t in

@@ -1,10 +1,10 @@
 -- A live row given back: it becomes one free run with the free rows next to it, and that is the map of the blocks without it.
 -- Assumes nothing.
 use Rattle.std.proofs.Common.{◌≡◌, ℕ, ◌+◌, ◌-◌, ◌<◌, ◌≤◌, Bool, true, false, not, eqb, ltb, List, [], ◌∷◌, ◌++◌, length, take, drop, sym, refl, ap, ◌∙◌, subst, append_assoc, append-nil, arith, length-append, lt-ltb, eq-eqb, ne_eqb, eqb-true}
-use Rattle.std.specs.Prelude.{Some}
+use Rattle.std.specs.Prelude.{Some, if◌then◌else◌, filter}
+use Rattle.std.specs.List.{list_all}
 use lib.Seq.{take-append_seam, drop-append_seam, append_snoc}
 use borrow.Author.Tests.{not-true}
-use Rattle.model.specs.Choose.{choose, every, only}
 use Rattle.model.specs.Quantities.{Config}
 use Rattle.model.specs.Allocation.{offset, block_at, without}
 use Rattle.model.specs.SegmentMap.{is_free, is_live, free_run, gap, map_from, map_of, rows_of}
@@ -29,7 +29,7 @@ freed_at ys zs = rw (take-append_seam ys zs, drop-append_seam ys zs)
 
 -- row i is joined with the row before it, if there is one and both are free
 abbrev joined_before : ℕ → List Segment → List Segment
-joined_before i xs = choose (ltb 0 i) (joined (i - 1) xs) xs
+joined_before i xs = if ltb 0 i then joined (i - 1) xs else xs
 
 -- a list that is not empty has a last one
 record Last (xs : List Segment) : Type 0 where
@@ -46,7 +46,7 @@ record Left (ys : List Segment) : Type 0 where
   before : List Segment
   left : List Segment
   all : ys ≡ before ++ left
-  free : every is_free left ≡ true
+  free : list_all is_free left ≡ true
   one : length left ≤ 1
   live : last_free false before ≡ false
   joins : (p s e : ℕ) (after : List Segment) → tiles p s left ≡ true → s ≤ e
@@ -95,7 +95,7 @@ record Right (zs : List Segment) : Type 0 where
   right : List Segment
   after : List Segment
   all : zs ≡ right ++ after
-  free : every is_free right ≡ true
+  free : list_all is_free right ≡ true
   one : length right ≤ 1
   live : first_free after ≡ false
   joins : (s q e : ℕ) → tiles q e right ≡ true → s ≤ q → join_first (free_run s (q - s) ∷ zs) ≡ free_run s (e - s) ∷ after
@@ -136,8 +136,8 @@ pub record Merged (c : Config) (ys : List Segment) (x : Segment) (zs rows : List
   pub after : List Segment
   pub front : ys ≡ before ++ left
   pub back : zs ≡ right ++ after
-  pub left_free : every is_free left ≡ true
-  pub right_free : every is_free right ≡ true
+  pub left_free : list_all is_free left ≡ true
+  pub right_free : list_all is_free right ≡ true
   pub left_one : length left ≤ 1
   pub right_one : length right ≤ 1
   pub before_live : last_free false before ≡ false
@@ -199,45 +199,45 @@ module _ (c : Config) (ys zs : List Segment) (x : Segment) (m : is_map c (ys ++ 
       merge l r (window c l.before (l.left ++ (x ∷ r.right)) r.after (subst (λ k. is_map c k ≡ true) same m))
 
   -- the live ones without the block
-  without_live : without (offset x) (only is_live (ys ++ (x ∷ zs))) ≡ only is_live ys ++ only is_live zs
+  without_live : without (offset x) (filter is_live (ys ++ (x ∷ zs))) ≡ filter is_live ys ++ filter is_live zs
   without_live =
       let w : Row c ys x zs = row_of c ys x zs m in
       let other : Segment → Bool = λ b. not (eqb (offset b) (offset x)) in
       let differs : (y : Segment) → ¬ (y.start ≡ x.start) → other y ≡ true = λ y n. rw (ne_eqb (offset y) (offset x) (λ e. n (omega arith))) in
-      let lower : every other ys ≡ true = every_weaker (starts_before x.start) other (λ y h. differs y (λ e. omega tests)) ys w.lower in
-      let higher : every other zs ≡ true = every_weaker (starts_from (x.start + x.length)) other (λ y h. differs y (λ e. omega tests)) zs w.higher in
+      let lower : list_all other ys ≡ true = every_weaker (starts_before x.start) other (λ y h. differs y (λ e. omega tests)) ys w.lower in
+      let higher : list_all other zs ≡ true = every_weaker (starts_from (x.start + x.length)) other (λ y h. differs y (λ e. omega tests)) zs w.higher in
       rw (
         only_append is_live ys (x ∷ zs),
         live,
-        only_append other (only is_live ys) (x ∷ only is_live zs),
+        only_append other (filter is_live ys) (x ∷ filter is_live zs),
         eq-eqb (offset x) (offset x) refl,
-        only_all other (only is_live ys) (every_only other is_live ys lower),
-        only_all other (only is_live zs) (every_only other is_live zs higher),
+        only_all other (filter is_live ys) (every_only other is_live ys lower),
+        only_all other (filter is_live zs) (every_only other is_live zs higher),
       )
 
   -- The map without the block is what is left after its row is given back.
-  pub release_map : map_of c (without (offset x) (only is_live (ys ++ (x ∷ zs)))) ≡ released (length ys) (ys ++ (x ∷ zs))
+  pub release_map : map_of c (without (offset x) (filter is_live (ys ++ (x ∷ zs)))) ≡ released (length ys) (ys ++ (x ∷ zs))
   release_map =
       let g : Merged c ys x zs (released (length ys) (ys ++ (x ∷ zs))) = merged in
       let v : Window c g.before (g.left ++ (x ∷ g.right)) g.after = g.place in
       let p : Parted v.from v.to g.left (x ∷ g.right) = part v.from v.to g.left (x ∷ g.right) v.filled in
       let h : First p.at v.to x g.right = first p.at v.to x g.right p.back in
       let s : v.from < v.to = omega (arith, tiles_le v.from p.at g.left p.front, tiles_le (x.start + x.length) v.to g.right h.rest, h.start, h.some) in
-      let a : only is_live ys ≡ only is_live g.before =
-      ap (only is_live) g.front ∙ only_append is_live g.before g.left ∙ rw (only_none is_free g.left g.left_free) (append-nil (only is_live g.before)) in
-      let b : only is_live zs ≡ only is_live g.after =
-      ap (only is_live) g.back ∙ only_append is_live g.right g.after ∙ rw (only_none is_free g.right g.right_free) in
+      let a : filter is_live ys ≡ filter is_live g.before =
+      ap (filter is_live) g.front ∙ only_append is_live g.before g.left ∙ rw (only_none is_free g.left g.left_free) (append-nil (filter is_live g.before)) in
+      let b : filter is_live zs ≡ filter is_live g.after =
+      ap (filter is_live) g.back ∙ only_append is_live g.right g.after ∙ rw (only_none is_free g.right g.right_free) in
       ap (map_of c) (without_live ∙ (λ i. a i ++ b i))
       ∙ refilled c g.before (g.left ++ (x ∷ g.right)) g.after v (free_run v.from (v.to - v.from) ∷ []) (run_tiles v.from v.to s) refl refl g.before_live g.after_live
       ∙ sym g.one
 
 -- Row i of a map, live and given back, leaves the map of the blocks without that one.
 pub release_rows : (c : Config) (xs : List Segment) (i : ℕ) → i < length xs → is_map c xs ≡ true → is_live (nth_row xs i) ≡ true
-    → released i xs ≡ map_of c (without (offset (nth_row xs i)) (only is_live xs))
+    → released i xs ≡ map_of c (without (offset (nth_row xs i)) (filter is_live xs))
 release_rows c xs i h m live =
     let x : Segment = nth_row xs i in
     let e : xs ≡ take i xs ++ (x ∷ drop (i + 1) xs) = row_parted xs i h in
-    sym (ap (λ r. map_of c (without (offset x) (only is_live r))) e
+    sym (ap (λ r. map_of c (without (offset x) (filter is_live r))) e
     ∙ release_map c (take i xs) (drop (i + 1) xs) x (subst (λ r. is_map c r ≡ true) e m) live
     ∙ (λ j. released (rows_before xs i h j) (sym e j)))
 
@@ -280,7 +280,7 @@ map_without c x bs b o e =
     let m : is_map c (s.before ++ (b ∷ s.after)) ≡ true = subst (λ r. is_map c r ≡ true) s.map (is_map_lem c bs o) in
     let live : is_live b ≡ true = rw (owner_not_0 c b s.live) in
     let new : map_of c (without x bs) ≡ released (length s.before) (s.before ++ (b ∷ s.after)) =
-    (λ i. map_of c (without (sym s.at i) ((sym (live_map c 0 bs o) ∙ ap (only is_live) s.map) i)))
+    (λ i. map_of c (without (sym s.at i) ((sym (live_map c 0 bs o) ∙ ap (filter is_live) s.map) i)))
     ∙ release_map c s.before s.after b m live in
     record {
       before = s.before;

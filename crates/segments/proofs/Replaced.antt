@@ -1,9 +1,8 @@
 -- A block that may take the place of the one in a row: where it lies, how many rows there are with it, and the row given back and another cut for it.
 -- Assumes nothing.
 use Rattle.std.proofs.Common.{◌≡◌, ℕ, ◌+◌, ◌-◌, ◌*◌, ◌≤◌, true, leb, List, length, sym, ap, ◌∙◌, subst, arith, eqb-true}
-use Rattle.std.specs.Prelude.{Some}
+use Rattle.std.specs.Prelude.{Some, if◌then◌else◌, filter}
 use borrow.Author.Tests.{not-true}
-use Rattle.model.specs.Choose.{choose, only}
 use Rattle.model.specs.Quantities.{Config}
 use Rattle.model.specs.Allocation.{insert, has_granule, block_over}
 use Rattle.model.specs.SegmentMap.{is_free, is_live, map_of, rows_of}
@@ -58,13 +57,13 @@ module _ {c : Config} {xs : List Segment} {i : ℕ} {b : Segment} (r : Replaceab
     cut_few = omega (arith, cut_is, around_few c xs i r.in_use r.map r.old)
 
     -- The new block begins in the run, or else in the row in which it begins now.
-    module _ {at : ℕ} (w : RowOf xs b.start at) {before t : Segment} (before_is : before ≡ nth_row xs at) (is : t ≡ choose (has_granule b.start run) run before) where
+    module _ {at : ℕ} (w : RowOf xs b.start at) {before t : Segment} (before_is : before ≡ nth_row xs at) (is : t ≡ (if has_granule b.start run then run else before)) where
       over : block_over b.start (map_of c blocks) ≡ Some t
       over =
-          let m : tiles 0 c.granules xs ≡ true = both_left _ _ r.map in
+          let m : tiles 0 c.granules xs ≡ true = both_left _ _ (both_left _ _ r.map) in
           let g : has_granule b.start (nth_row xs at) ≡ true = w.has c.granules m (omega (arith, inside, long c b live_block)) in
-          let e : t ≡ choose (has_granule b.start (run_around xs i)) (run_around xs i) (nth_row xs at) =
-          is ∙ (λ j. choose (has_granule b.start (run_is j)) (run_is j) (before_is j)) in
+          let e : t ≡ (if has_granule b.start (run_around xs i) then run_around xs i else nth_row xs at) =
+          is ∙ (λ j. if has_granule b.start (run_is j) then run_is j else before_is j) in
           over_around c xs i r.in_use r.map r.old b.start
           ∙ split (has_granule b.start (run_around xs i))
           (λ q. rw q (ap Some (sym (e ∙ rw q))))
@@ -89,8 +88,8 @@ module _ {c : Config} {n i : ℕ} {b : Segment} {ws : List ℕ} (r : Replaceable
     freed_count : m ≡ rows_of c (blocks r)
     freed_count = sym (length_segments m part) ∙ ap length freed_is
 
-    freed_blocks : only is_live (segments_in m part) ≡ blocks r
-    freed_blocks = ap (only is_live) freed_is ∙ live_map c 0 (blocks r) (ordered c (segments_in n ws) i r.in_use r.map r.old)
+    freed_blocks : filter is_live (segments_in m part) ≡ blocks r
+    freed_blocks = ap (filter is_live) freed_is ∙ live_map c 0 (blocks r) (ordered c (segments_in n ws) i r.in_use r.map r.old)
 
     -- The rows left are some, and no more than before.
     pub freed_some : (1 ≤ m) × (m ≤ n)
@@ -106,7 +105,7 @@ module _ {c : Config} {n i : ℕ} {b : Segment} {ws : List ℕ} (r : Replaceable
 
       over_target : block_over b.start (map_of c (blocks r)) ≡ Some target_row
       over_target =
-          let t : tiles 0 c.granules (segments_in m part) ≡ true = both_left _ _ freed_map in
+          let t : tiles 0 c.granules (segments_in m part) ≡ true = both_left _ _ (both_left _ _ freed_map) in
           ap (block_over b.start) (sym freed_is)
           ∙ segment_over c (segments_in m part) b.start at freed_map a.in_use (a.has c.granules t (omega (arith, inside r, long c b (live_block r))))
 

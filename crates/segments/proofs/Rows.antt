@@ -2,7 +2,7 @@
 -- Assumes nothing.
 use Rattle.std.proofs.Common.{◌≡◌, ℕ, zero, suc, ◌-◌, ◌*◌, ◌≤◌, true, eqb, List, [], ◌∷◌, ◌++◌, length, drop, replicate, refl, ap, ◌∙◌, arith, length-append, length-drop, drop_at, eqb-true}
 use lib.ListN.{length-replicate}
-use Rattle.model.specs.Choose.{every}
+use Rattle.std.specs.List.{list_all}
 use Rattle.model.proofs.Choosing.{every_head, every_tail}
 use Rattle.segments.specs.Rows.{words_of, table_of, segments_in}
 use Rattle.model.specs.declared.Segment.{Segment}
@@ -35,20 +35,20 @@ words_back (suc n) (a ∷ b ∷ c ∷ d ∷ ws) h =
     rw z (ap (λ r. a ∷ b ∷ c ∷ d ∷ r) (words_back n ws (omega arith)))
 
 -- Words are all zero exactly if they are so many zeros.
-zeros : (n : ℕ) → every (eqb 0) (replicate n 0) ≡ true
+zeros : (n : ℕ) → list_all (eqb 0) (replicate n 0) ≡ true
 zeros zero = refl
 zeros (suc n) = zeros n
 
-pub zeros_back : (xs : List ℕ) → every (eqb 0) xs ≡ true → replicate (length xs) 0 ≡ xs
+pub zeros_back : (xs : List ℕ) → list_all (eqb 0) xs ≡ true → replicate (length xs) 0 ≡ xs
 zeros_back [] e = refl
 zeros_back (x ∷ xs) e = let z : 0 ≡ x = eqb-true 0 x (every_head (eqb 0) x xs e) in λ i. z i ∷ zeros_back xs (every_tail (eqb 0) x xs e) i
 
 -- The rows after those in use are all zero.
-pub rest_zeros : (n : ℕ) (ss : List Segment) → every (eqb 0) (drop (4 * length ss) (table_of n ss)) ≡ true
+pub rest_zeros : (n : ℕ) (ss : List Segment) → list_all (eqb 0) (drop (4 * length ss) (table_of n ss)) ≡ true
 rest_zeros n ss = rw (drop_at (words_of ss) (replicate (4 * (n - length ss)) 0) (4 * length ss) (length_words ss)) (zeros (4 * (n - length ss)))
 
 -- A table of so many rows whose words after the first n rows are all zero is the table of the segments in those.
-pub table_back : (capacity n : ℕ) (ws : List ℕ) → length ws ≡ 4 * capacity → n ≤ capacity → every (eqb 0) (drop (4 * n) ws) ≡ true
+pub table_back : (capacity n : ℕ) (ws : List ℕ) → length ws ≡ 4 * capacity → n ≤ capacity → list_all (eqb 0) (drop (4 * n) ws) ≡ true
     → table_of capacity (segments_in n ws) ≡ ws
 table_back capacity n ws l h z =
     let k : 4 * (capacity - length (segments_in n ws)) ≡ length (drop (4 * n) ws) = omega (arith, length-drop (4 * n) ws, length_segments n ws) in

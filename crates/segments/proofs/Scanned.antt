@@ -1,9 +1,10 @@
 -- First fit over the rows, one after the other, finds the lowest start.
 -- Assumes nothing.
 use Rattle.std.proofs.Common.{◌≡◌, ℕ, ◌+◌, ◌-◌, ◌*◌, ◌/◌, ◌%◌, ◌^◌, ◌<◌, ◌≤◌, Bool, true, false, not, eqb, leb, List, [], ◌∷◌, length, drop, sym, refl, ap, ◌∙◌, subst, mod-eq_of_lt, arith, eq-eqb, ne_eqb, eqb-true, le-leb}
-use Rattle.std.specs.Prelude.{Option, Some, None}
+use Rattle.std.specs.Prelude.{Option, Some, None, if◌then◌else◌, ◌&&◌, filter}
+use Rattle.std.specs.List.{list_all}
 use Rattle.std.specs.Option.{option_map}
-use Rattle.model.specs.Choose.{choose, both, every, only, least_from}
+use Rattle.model.specs.Choose.{least_from}
 use Rattle.model.specs.Quantities.{Config, is_alignment}
 use Rattle.model.specs.Allocation.{clear_of, serves, lowest_start}
 use Rattle.model.specs.SegmentMap.{is_free, is_live}
@@ -29,19 +30,19 @@ place i s = record { row = i; start = s }
 
 -- A free segment that has g granules from a boundary of m granules on, counted from f granules before the arena's first.
 abbrev pub hit : ℕ → ℕ → ℕ → Segment → Bool
-hit g m f x = both (is_free x) (leb (padding m (f + x.start) + g) x.length)
+hit g m f x = is_free x && leb (padding m (f + x.start) + g) x.length
 
 -- The first of them, from row i on.
 abbrev pub first_hit : ℕ → ℕ → ℕ → ℕ → List Segment → Option Place
 first_hit g m f i [] = None
-first_hit g m f i (x ∷ xs) = choose (hit g m f x) (Some (place i (x.start + padding m (f + x.start)))) (first_hit g m f (i + 1) xs)
+first_hit g m f i (x ∷ xs) = if hit g m f x then Some (place i (x.start + padding m (f + x.start))) else first_hit g m f (i + 1) xs
 
 module _ (c : Config) (g m a : ℕ) (hg : 1 ≤ g) (up : (s : ℕ) → Padded m a c.base s) where
   -- a start in a live block does not serve
   in_block : (x : Segment) (bs : List Segment) (t : ℕ) → x.start ≤ t → t < x.start + x.length → serves c (x ∷ bs) g a t ≡ false
   in_block x bs t h k =
       split (serves c (x ∷ bs) g a t)
-      (λ q. let e : every (clear_of t g) (x ∷ bs) ≡ true = search parts in
+      (λ q. let e : list_all (clear_of t g) (x ∷ bs) ≡ true = search parts in
       absurd (omega (arith, clear_before t g x (every_head (clear_of t g) x bs e) k)))
       (λ q. q)
 
@@ -52,7 +53,7 @@ module _ (c : Config) (g m a : ℕ) (hg : 1 ≤ g) (up : (s : ℕ) → Padded m 
   -- a start in a free run that is too short does not serve either
   short : (s : ℕ) (x : Segment) (xs : List Segment) → tiles s c.granules (x ∷ xs) ≡ true → no_two_free (x ∷ xs) ≡ true
       → is_free x ≡ true → x.length < padding m (c.base / 16 + x.start) + g → (t : ℕ) → x.start ≤ t → t < x.start + x.length
-      → serves c (only is_live xs) g a t ≡ false
+      → serves c (filter is_live xs) g a t ≡ false
   short s x [] ts n f l t h k =
       split (serves c [] g a t)
       (λ q. let fi : First s c.granules x [] = first s c.granules x [] ts in
@@ -64,21 +65,21 @@ module _ (c : Config) (g m a : ℕ) (hg : 1 ≤ g) (up : (s : ℕ) → Padded m 
       let fi : First s c.granules x (y ∷ ys) = first s c.granules x (y ∷ ys) ts in
       let fy : First (x.start + x.length) c.granules y ys = first (x.start + x.length) c.granules y ys fi.rest in
       split (is_free y)
-      (λ q. absurd (clash false (rw (f, q) at (both_left (not (both (is_free x) (is_free y))) (no_two_free (y ∷ ys)) n)) refl))
+      (λ q. absurd (clash false (rw (f, q) at (both_left (not (is_free x && is_free y)) (no_two_free (y ∷ ys)) n)) refl))
       (λ q. rw q
-      (split (serves c (y ∷ only is_live ys) g a t)
+      (split (serves c (y ∷ filter is_live ys) g a t)
       (λ v. let p : eqb ((c.base + 16 * t) % a) 0 ≡ true = search parts in
-      let e : every (clear_of t g) (y ∷ only is_live ys) ≡ true = search parts in
-      absurd (omega (tests, (up x.start).least t h (eqb-true _ _ p), clear_before t g y (every_head (clear_of t g) y (only is_live ys) e) (omega arith))))
+      let e : list_all (clear_of t g) (y ∷ filter is_live ys) ≡ true = search parts in
+      absurd (omega (tests, (up x.start).least t h (eqb-true _ _ p), clear_before t g y (every_head (clear_of t g) y (filter is_live ys) e) (omega arith))))
       (λ v. v)))
 
   -- the lowest start from s on is that of the first hit
-  lowest_hit : (i s : ℕ) (xs : List Segment) → tiles s c.granules xs ≡ true → every (well_formed c) xs ≡ true → no_two_free xs ≡ true
-      → least_from (serves c (only is_live xs) g a) s (c.granules - s) ≡ start_of (first_hit g m (c.base / 16) i xs)
+  lowest_hit : (i s : ℕ) (xs : List Segment) → tiles s c.granules xs ≡ true → list_all (well_formed c) xs ≡ true → no_two_free xs ≡ true
+      → least_from (serves c (filter is_live xs) g a) s (c.granules - s) ≡ start_of (first_hit g m (c.base / 16) i xs)
   lowest_hit i s [] ts w n = let z : c.granules - s ≡ 0 = omega (tests, eqb-true s c.granules ts) in rw z
   lowest_hit i s (x ∷ xs) ts w n =
       let f : First s c.granules x xs = first s c.granules x xs ts in
-      let bs : List Segment = only is_live xs in
+      let bs : List Segment = filter is_live xs in
       let e : ℕ = x.start + x.length in
       let k : ℕ = c.granules - e in
       let u : ℕ = x.start + padding m (c.base / 16 + x.start) in
@@ -87,7 +88,7 @@ module _ (c : Config) (g m a : ℕ) (hg : 1 ≤ g) (up : (s : ℕ) → Padded m 
       let r : least_from (serves c bs g a) e k ≡ start_of (first_hit g m (c.base / 16) (i + 1) xs) =
       lowest_hit (i + 1) e xs f.rest (every_tail (well_formed c) x xs w) (apart_tail x xs n) in
       let o : Ordered c e bs = ordered_back c e xs f.rest (every_tail (well_formed c) x xs w) in
-      subst (λ (b : ℕ). least_from (serves c (only is_live (x ∷ xs)) g a) b (c.granules - b) ≡ start_of (first_hit g m (c.base / 16) i (x ∷ xs))) f.start
+      subst (λ (b : ℕ). least_from (serves c (filter is_live (x ∷ xs)) g a) b (c.granules - b) ≡ start_of (first_hit g m (c.base / 16) i (x ∷ xs))) f.start
       (split (is_free x)
       (λ q. rw q
       (split (leb (padding m (c.base / 16 + x.start) + g) x.length)
@@ -125,12 +126,12 @@ module _ {g m f i : ℕ} {xs : List Segment} (p : Passed g m f i xs) (h : i < le
 
 -- the lowest start is that of the first hit
 lowest : (c : Config) (base g a : ℕ) (xs : List Segment) → c.base ≡ base → base % 16 ≡ 0 → is_map c xs ≡ true → 1 ≤ g → is_alignment a ≡ true
-    → lowest_start c (only is_live xs) g a ≡ start_of (first_hit g (a / 16) (base / 16) 0 xs)
+    → lowest_start c (filter is_live xs) g a ≡ start_of (first_hit g (a / 16) (base / 16) 0 xs)
 lowest c base g a xs at_base whole ok hg al =
     let m : (1 ≤ a / 16) × (a ≡ 16 * (a / 16)) = alignment_granules a al in
     let z : c.granules ≡ c.granules - 0 = omega arith in
     let w : c.base % 16 ≡ 0 = ap (λ (b : ℕ). b % 16) at_base ∙ whole in
-    ap (least_from (serves c (only is_live xs) g a) 0) z
+    ap (least_from (serves c (filter is_live xs) g a) 0) z
     ∙ lowest_hit c g (a / 16) a hg (padded (a / 16) a c.base m.0 m.1 w) 0 0 xs (search parts) (search parts) (search parts)
     ∙ ap (λ (b : ℕ). start_of (first_hit g (a / 16) (b / 16) 0 xs)) at_base
 

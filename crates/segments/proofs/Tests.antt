@@ -3,10 +3,9 @@
 use Rattle.std.proofs.Common.{◌≡◌, ℕ, eqb, List, [], ◌∷◌, refl, sym, eq-eqb, ne_eqb}
 use Rattle.std.specs.Prelude.{◌==◌}
 use Rattle.std.specs.List.{list_all}
-use Rattle.model.specs.Choose.{every}
 use Rattle.model.proofs.Choosing.{split, tests, ne_of_eqb}
 
-pub every_is : (v : ℕ) (xs : List ℕ) → list_all (λ x. x == v) xs ≡ every (eqb v) xs
+pub every_is : (v : ℕ) (xs : List ℕ) → list_all (λ x. x == v) xs ≡ list_all (eqb v) xs
 every_is v [] = refl
 every_is v (x ∷ xs) =
     split (eqb x v)

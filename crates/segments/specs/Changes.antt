@@ -1,7 +1,6 @@
 -- What is done to the rows in use when a block is lent, given back or resized.
 -- Assumes nothing.
-use Rattle.std.specs.Prelude.{◌≡◌, ℕ, ◌+◌, ◌-◌, ◌<◌, ◌≤◌, true, List, [], ◌∷◌, ◌++◌, length, take, drop, nat_lt}
-use Rattle.model.specs.Choose.{choose, both}
+use Rattle.std.specs.Prelude.{◌≡◌, ℕ, ◌+◌, ◌-◌, ◌<◌, ◌≤◌, true, if◌then◌else◌, ◌&&◌, List, [], ◌∷◌, ◌++◌, length, take, drop, nat_lt}
 use Rattle.model.specs.Quantities.{Config}
 use Rattle.model.specs.Allocation.{room}
 use Rattle.model.specs.SegmentMap.{is_free, is_live, free_run, gap}
@@ -30,7 +29,7 @@ cut x b = gap x.start b.start ++ (b ∷ gap (b.start + b.length) (x.start + x.le
 abbrev pub join_first : List Segment → List Segment
 join_first [] = []
 join_first (x ∷ []) = x ∷ []
-join_first (x ∷ y ∷ ys) = choose (both (is_free x) (is_free y)) (free_run x.start (x.length + y.length) ∷ ys) (x ∷ y ∷ ys)
+join_first (x ∷ y ∷ ys) = if is_free x && is_free y then free_run x.start (x.length + y.length) ∷ ys else x ∷ y ∷ ys
 
 -- Rows i and i + 1 become one free run if both are free.
 abbrev pub joined : ℕ → List Segment → List Segment
@@ -47,7 +46,7 @@ freed i xs = take i xs ++ free_first (drop i xs)
 
 -- Row i becomes a free run, and is joined with the row after it and the row before it, each if that is free.
 abbrev pub released : ℕ → List Segment → List Segment
-released i xs = choose (nat_lt 0 i) (joined (i - 1) (joined i (freed i xs))) (joined i (freed i xs))
+released i xs = if nat_lt 0 i then joined (i - 1) (joined i (freed i xs)) else joined i (freed i xs)
 
 -- A block may take the place of the one in row i of a map: there is room for it beside the other blocks.
 pub record Replaceable (c : Config) (xs : List Segment) (i : ℕ) (b : Segment) : Type 0 where

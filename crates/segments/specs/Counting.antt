@@ -1,7 +1,6 @@
 -- What one pass over the rows counts.
 -- Assumes nothing.
-use Rattle.std.specs.Prelude.{◌≡◌, ℕ, ◌-◌, ◌≤◌, List, length, slice_index, Option, is_some, IfSome}
-use Rattle.model.specs.Choose.{only}
+use Rattle.std.specs.Prelude.{◌≡◌, ℕ, ◌-◌, ◌≤◌, List, filter, length, slice_index, Option, is_some, IfSome}
 use Rattle.model.specs.Quantities.{Config}
 use Rattle.model.specs.Allocation.{granules_of, owned_by}
 use Rattle.model.specs.SegmentMap.{is_live, longest_free}
@@ -22,10 +21,10 @@ pub record Bounded (g : ℕ) (k : Census) : Type 0 where
 -- The figures of rows that are a map are those of the live blocks.
 pub record Figures (c : Config) (xs : List Segment) (k : Census) : Type 0 where
   pub bounded : Bounded c.granules k
-  pub used : k.used ≡ granules_of (only is_live xs)
-  pub longest : k.longest ≡ longest_free c (only is_live xs)
-  pub blocks : (o : ℕ) → 1 ≤ o → o ≤ 8 → slice_index k.blocks (o - 1) ≡ length (owned_by o (only is_live xs))
-  pub held : (o : ℕ) → 1 ≤ o → o ≤ 8 → slice_index k.held (o - 1) ≡ granules_of (owned_by o (only is_live xs))
+  pub used : k.used ≡ granules_of (filter is_live xs)
+  pub longest : k.longest ≡ longest_free c (filter is_live xs)
+  pub blocks : (o : ℕ) → 1 ≤ o → o ≤ 8 → slice_index k.blocks (o - 1) ≡ length (owned_by o (filter is_live xs))
+  pub held : (o : ℕ) → 1 ≤ o → o ≤ 8 → slice_index k.held (o - 1) ≡ granules_of (owned_by o (filter is_live xs))
 
 -- A pass over rows counts them just where they are a map.
 pub record Counted (c : Config) (xs : List Segment) (k : Option Census) : Type 0 where

@@ -1,7 +1,6 @@
 -- The rows of a table as words: written, read back, and written over.
 -- Assumes nothing.
-use Rattle.std.specs.Prelude.{◌≡◌, ℕ, zero, suc, ◌+◌, ◌-◌, ◌*◌, max, List, [], ◌∷◌, ◌++◌, length, take, drop, replicate, slice_index, slice_index_or}
-use Rattle.model.specs.Choose.{only}
+use Rattle.std.specs.Prelude.{◌≡◌, ℕ, zero, suc, ◌+◌, ◌-◌, ◌*◌, max, List, [], ◌∷◌, ◌++◌, filter, length, take, drop, replicate, slice_index, slice_index_or}
 use Rattle.model.specs.SegmentMap.{is_live, free_run}
 use Rattle.model.specs.declared.Segment.{Segment}
 
@@ -29,7 +28,7 @@ nth_row xs i = slice_index_or xs i (free_run 0 0)
 
 -- The live blocks in the first n rows are the segments there that are not free.
 abbrev pub blocks_in : ℕ → List ℕ → List Segment
-blocks_in n ws = only is_live (segments_in n ws)
+blocks_in n ws = filter is_live (segments_in n ws)
 
 -- A table with its row i set has every other word as it was.
 abbrev pub with_row : List ℕ → ℕ → Segment → List ℕ

@@ -1,8 +1,7 @@
 -- What is looked for in the rows: the row of a granule, the place that first fit names, and the start of a block with another length.
 -- Assumes nothing.
-use Rattle.std.specs.Prelude.{◌≡◌, ℕ, ◌+◌, ◌<◌, ◌≤◌, true, List, length, Option, Some, IfSome}
+use Rattle.std.specs.Prelude.{◌≡◌, ℕ, ◌+◌, ◌<◌, ◌≤◌, true, if◌then◌else◌, List, filter, length, Option, Some, IfSome}
 use Rattle.std.specs.Option.{option_map}
-use Rattle.model.specs.Choose.{choose, only}
 use Rattle.model.specs.Quantities.{Config}
 use Rattle.model.specs.Allocation.{room, lowest_start, offset, has_granule, without}
 use Rattle.model.specs.SegmentMap.{is_live}
@@ -25,14 +24,14 @@ pub record Room (xs : List Segment) (g row s : ℕ) : Type 0 where
 
 -- What first fit finds in rows that are a map: the lowest start that serves g granules on a boundary of a bytes beside the live blocks, and its row.
 pub record Found (c : Config) (xs : List Segment) (g a : ℕ) (found : Option Place) : Type 0 where
-  pub lowest : lowest_start c (only is_live xs) g a ≡ option_map (λ p. p.start) found
+  pub lowest : lowest_start c (filter is_live xs) g a ≡ option_map (λ p. p.start) found
   pub room : IfSome found (λ p. Room xs g p.row p.start)
 
 -- The blocks but for the one in row i.
 abbrev pub others : List Segment → ℕ → List Segment
-others xs i = without (offset (nth_row xs i)) (only is_live xs)
+others xs i = without (offset (nth_row xs i)) (filter is_live xs)
 
 -- The block in row i with g granules starts where it does if there is room beside the other blocks, else at the lowest start clear of all, if there is one.
 abbrev pub refit_start : Config → List Segment → ℕ → ℕ → Option ℕ
 refit_start c xs i g =
-    choose (room c (others xs i) g (nth_row xs i).start) (Some (nth_row xs i).start) (lowest_start c (only is_live xs) g 16)
+    if room c (others xs i) g (nth_row xs i).start then Some (nth_row xs i).start else lowest_start c (filter is_live xs) g 16

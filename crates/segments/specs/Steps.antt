@@ -1,7 +1,6 @@
 -- What the functions within the crate do, step by step: a caller needs none of it.
 -- Assumes nothing.
-use Rattle.std.specs.Prelude.{ℕ, ◌+◌, ◌-◌, ◌%◌, max, Bool, true, false, not, List, length, replicate, ◌==◌, nat_le, nat_lt, slice_index, slice_set}
-use Rattle.model.specs.Choose.{choose, both}
+use Rattle.std.specs.Prelude.{ℕ, ◌+◌, ◌-◌, ◌%◌, max, Bool, true, false, not, if◌then◌else◌, ◌&&◌, List, length, replicate, ◌==◌, nat_le, nat_lt, slice_index, slice_set}
 use Rattle.model.specs.Quantities.{Config}
 use Rattle.model.specs.SegmentMap.{is_free, free_run}
 use Rattle.segments.specs.Rows.{nth_row}
@@ -20,11 +19,11 @@ none_counted = record { end = 0; after_free = false; used = 0; longest = 0; bloc
 -- A row may follow those counted: it begins where they end, is at least 1 long, ends in the arena, is well formed, and is not the second free one of two that touch.
 unfoldable pub follows_of : Config → Census → Segment → Bool
 follows_of c k x =
-    both (x.start == k.end)
-    (both (nat_le 1 x.length)
-    (both (nat_le x.length (c.granules - k.end))
-    (both (well_formed c x)
-    (not (both k.after_free (is_free x))))))
+    x.start == k.end
+    && nat_le 1 x.length
+    && nat_le x.length (c.granules - k.end)
+    && well_formed c x
+    && not (k.after_free && is_free x)
 
 -- The count with a free row of so many granules.
 abbrev pub free_of : Census → ℕ → Census
@@ -52,14 +51,14 @@ live_of k o n =
 
 -- The free run that row i leaves when it is released begins at the row before it if that is free, else at row i.
 abbrev pub run_from : List Segment → ℕ → ℕ
-run_from xs i = choose (both (nat_lt 0 i) (is_free (nth_row xs (i - 1)))) (nth_row xs (i - 1)).start (nth_row xs i).start
+run_from xs i = if nat_lt 0 i && is_free (nth_row xs (i - 1)) then (nth_row xs (i - 1)).start else (nth_row xs i).start
 
 -- It ends with the row after it if there is one and that is free, else with row i.
 abbrev pub run_to : List Segment → ℕ → ℕ
 run_to xs i =
-    choose (both (nat_lt (i + 1) (length xs)) (is_free (nth_row xs (i + 1))))
-    ((nth_row xs (i + 1)).start + (nth_row xs (i + 1)).length)
-    ((nth_row xs i).start + (nth_row xs i).length)
+    if nat_lt (i + 1) (length xs) && is_free (nth_row xs (i + 1))
+    then (nth_row xs (i + 1)).start + (nth_row xs (i + 1)).length
+    else (nth_row xs i).start + (nth_row xs i).length
 
 -- It is one free row.
 abbrev pub run_around : List Segment → ℕ → Segment

@@ -1,7 +1,7 @@
 //! Bytes of the arena: set, tested and moved.
 
-ghost use Rattle.std.specs.Prelude.{◌≡◌, ◌+◌, ◌≤◌, true, length, replicate, ◌==◌, nat_eq, nat_le};
-ghost use Rattle.model.specs.Choose.{both, either, every};
+ghost use Rattle.std.specs.Prelude.{◌≡◌, ◌+◌, ◌≤◌, true, ◌&&◌, ◌||◌, length, replicate, ◌==◌, nat_eq, nat_le};
+ghost use Rattle.std.specs.List.{list_all};
 ghost use Rattle.model.specs.Arena.{written, slice, disjoint, moved};
 
 /// A run of bytes set to one value.
@@ -15,7 +15,7 @@ pub fn fill(bytes: &mut [u8], from: usize, count: usize, value: u8)
 /// Whether the bytes of a run all have one value.
 pub fn is_filled(bytes: &[u8], from: usize, count: usize, value: u8) -> bool
     requires { from + count ≤ length bytes.now }
-    ensures { result ≡ every (nat_eq value) (slice from count bytes.now) }
+    ensures { result ≡ list_all (nat_eq value) (slice from count bytes.now) }
 {
     bytes[from..from + count].iter().all(|&byte| byte == value)
 }
@@ -25,7 +25,7 @@ pub fn is_filled(bytes: &[u8], from: usize, count: usize, value: u8) -> bool
 pub fn move_bytes(bytes: &mut [u8], from: usize, held: usize, to: usize, room: usize)
     requires from { from + held ≤ length bytes.old }
     requires to { to + room ≤ length bytes.old }
-    requires apart { either (from == to) (both (nat_le held room) (disjoint from held to room)) ≡ true }
+    requires apart { (from == to || (nat_le held room && disjoint from held to room)) ≡ true }
     ensures { bytes.new ≡ moved from held to room bytes.old }
 {
     if from != to {

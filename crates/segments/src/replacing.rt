@@ -1,7 +1,6 @@
 //! A block put into the place of another: where it may start, how many rows there are then, and the rows rewritten.
 
-ghost use Rattle.std.specs.Prelude.{◌≡◌, ◌+◌, ◌*◌, ◌%◌, ◌<◌, ◌≤◌, true, length};
-ghost use Rattle.model.specs.Choose.{choose};
+ghost use Rattle.std.specs.Prelude.{◌≡◌, ◌+◌, ◌*◌, ◌%◌, ◌<◌, ◌≤◌, true, if◌then◌else◌, length};
 ghost use Rattle.model.specs.Quantities.{Config};
 ghost use Rattle.model.specs.Allocation.{insert, has_granule};
 ghost use Rattle.model.specs.SegmentMap.{is_live, map_of, rows_of};
@@ -20,7 +19,7 @@ use model::Segment;
 // The row that a granule is in once a block is given back: `run`, the free run that is left, if it has the granule, and else `before`, its row until then.
 fn row_without(run: Segment, before: Segment, granule: u32) -> Segment
     requires { run.start + run.length ≤ 4294967295 }
-    ensures { result ≡ choose (has_granule granule run) run before }
+    ensures { result ≡ (if has_granule granule run then run else before) }
 {
     if run.start <= granule && granule < run.start + run.length {
         run

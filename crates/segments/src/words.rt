@@ -1,7 +1,7 @@
 //! The words of a whole table: the rest tested for zeros, and all of it set.
 
 ghost use Rattle.std.specs.Prelude.{◌≡◌, ◌-◌, ◌≤◌, [], ◌∷◌, ◌++◌, length, drop, replicate, nat_eq};
-ghost use Rattle.model.specs.Choose.{every};
+ghost use Rattle.std.specs.List.{list_all};
 ghost use Rattle.model.specs.SegmentMap.{free_run};
 ghost use Rattle.segments.specs.Rows.{words_of};
 
@@ -9,7 +9,7 @@ use crate::row_words::{free_run, put_row};
 
 /// Whether the words from a place on are all zero; past the end there are none.
 pub fn zero_from(table: &[u32], from: usize) -> bool
-    ensures { result ≡ every (nat_eq 0) (drop from table.now) }
+    ensures { result ≡ list_all (nat_eq 0) (drop from table.now) }
 {
     table.len() <= from || table[from..].iter().all(|&word| word == 0)
 }

@@ -1,8 +1,8 @@
 -- `segments::bytes::move_bytes` meets its contract: the bytes are copied and their own place zeroed, or stay, without those past the room.
 -- Assumes nothing.
 use Rattle.std.proofs.Common.{◌≡◌, ℕ, ◌+◌, ◌-◌, ◌≤◌, true, eqb, leb, sym, ap, ◌∙◌, arith, ne_eqb, le-leb}
-use Rattle.model.specs.Choose.{both, either}
 use Rattle.std.specs.List.{copy_within}
+use Rattle.std.specs.Prelude.{◌&&◌, ◌||◌}
 use Rattle.model.specs.Arena.{written, slice, zeroed, disjoint, moved}
 use Rattle.model.proofs.Bytes.{length_slice}
 use Rattle.model.proofs.Choosing.{split, parts, tests, one_holds}
@@ -10,10 +10,10 @@ use Rattle.model.proofs.Moving.{moved_shorter, moved_longer, moved_apart}
 use Rattle.segments.proofs.bytes.move_bytes.Goals as goal
 
 -- A block that moves at all goes to a place that is no shorter and, as far as it fills it, has no byte of the old.
-elsewhere : (from held to room : ℕ) → either (eqb from to) (both (leb held room) (disjoint from held to room)) ≡ true → ¬ (from ≡ to)
+elsewhere : (from held to room : ℕ) → (eqb from to || (leb held room && disjoint from held to room)) ≡ true → ¬ (from ≡ to)
     → (held ≤ room) × (disjoint from held to held ≡ true)
 elsewhere from held to room e n =
-    let b : both (leb held room) (disjoint from held to room) ≡ true = rw (ne_eqb from to n) at e in
+    let b : (leb held room && disjoint from held to room) ≡ true = rw (ne_eqb from to n) at e in
     let l : leb held room ≡ true = search parts in
     let d : disjoint from held to room ≡ true = search parts in
     (omega tests, split (leb (from + held) to) (λ q. rw q) (λ q. rw (q, le-leb (to + held) from (omega (tests, one_holds)))))

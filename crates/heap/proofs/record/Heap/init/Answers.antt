@@ -1,11 +1,10 @@
 -- `heap::Heap::init` meets its contract.
 -- Assumes nothing.
-use Rattle.std.specs.Prelude.{◌≡◌, Bool, true, false, Ok}
+use Rattle.std.specs.Prelude.{◌≡◌, Bool, true, false, if◌then◌else◌, Ok}
 use mir.Val.{bool_byte}
 use Rattle.std.proofs.Common.{rules, refl, sym, ap, ◌∙◌}
 use native.Mathlib.Omega.{arith}
 use Rattle.model.specs.Quantities.{Config, in_range}
-use Rattle.model.specs.Choose.{choose}
 use Rattle.model.specs.Rules as model
 use Rattle.model.specs.Numbers.{made_numbered}
 use Rattle.model.proofs.Ranges.{some_rows, few_granules, few_rows}
@@ -13,7 +12,7 @@ use Rattle.heap.proofs.Makes.{init_range, done_leaves}
 use Rattle.heap.proofs.record.Heap.init.Goals as goal
 
 -- the granules of a guard, as a flag says them
-byte_of : (b : Bool) → bool_byte b ≡ choose b 1 0
+byte_of : (b : Bool) → bool_byte b ≡ (if b then 1 else 0)
 byte_of true = refl
 byte_of false = refl
 
