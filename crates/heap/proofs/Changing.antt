@@ -9,7 +9,8 @@ use lib.ListN.{length}
 use Rattle.model.specs.Allocation.{granules_of, changed}
 use Rattle.model.specs.SegmentMap.{map_of, rows_of}
 use Rattle.model.proofs.Ranges.{base_whole, few_guards, few_granules, few_rows}
-use Rattle.segments.specs.Rows.{segment_at, segments_in, table_of, Rewritten}
+use Rattle.segments.specs.Rows.{nth_row, segments_in, table_of, Rewritten}
+use Rattle.segments.proofs.Rows.{length_segments}
 use Rattle.segments.proofs.Reading.{row_end}
 use Rattle.segments.proofs.Rewriting.{rewritten_table}
 use Rattle.segments.proofs.Parted.{map_granules}
@@ -44,7 +45,7 @@ module _ (r : Heap) (ws : List ℕ) (v : valid r ws ≡ true) where
     pub used : r.used ≤ r.peak
     pub peak : r.peak ≤ r.granules
     pub whole : granules_of (segments_in r.rows ws) ≤ 65536
-    pub row : (i : ℕ) → i < r.rows → (segment_at ws i).start + (segment_at ws i).length ≤ r.granules
+    pub row : (i : ℕ) → i < r.rows → (nth_row (segments_in r.rows ws) i).start + (nth_row (segments_in r.rows ws) i).length ≤ r.granules
 
   pub bounds : Bounds
   bounds =
@@ -59,7 +60,7 @@ module _ (r : Heap) (ws : List ℕ) (v : valid r ws ≡ true) where
         used = all.peak_least;
         peak = all.peak_most;
         whole = omega (arith, map_granules (config_of r) (segments_in r.rows ws) (valid_map r ws v), few_granules (config_of r) all.range);
-        row = λ i h. row_end r.rows r.granules ws i all.tiled h;
+        row = λ i h. row_end r.granules (segments_in r.rows ws) i all.tiled (omega (arith, h, length_segments r.rows ws));
       }
 
   -- The rows of other live blocks put into the table, and the record updated with what they hold, are the state with those blocks, stored.

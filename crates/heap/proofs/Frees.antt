@@ -24,10 +24,11 @@ use Rattle.model.proofs.Released.{Released, released as not-refused}
 use Rattle.model.proofs.Kept.{Kept, keep_others, returned_free_lem}
 use Rattle.model.proofs.Laws.{block_inside}
 use Rattle.model.proofs.Asked.{free_asks, size_asks}
-use Rattle.segments.specs.Rows.{segment_at, segments_in, blocks_in, Rewritten}
+use Rattle.segments.specs.Rows.{nth_row, segments_in, blocks_in, Rewritten}
 use Rattle.segments.specs.Search.{RowOf}
 use Rattle.segments.specs.Changes.{released}
 use Rattle.segments.proofs.Finding.{over_row}
+use Rattle.segments.proofs.Rows.{length_segments}
 use Rattle.segments.proofs.Releasing.{release_rows}
 use Rattle.heap.specs.Stored.{Stored, handed, store, config_of, state_in}
 use Rattle.heap.specs.Valid.{valid}
@@ -46,10 +47,7 @@ use Rattle.heap.specs.declared.freeing.Found.{Found}
 module _ (r : Heap) (ws : List ℕ) where
   -- A row in use is in the table, and holds no more bytes than an arena has.
   module _ (v : valid r ws ≡ true) (i : ℕ) (h : i < r.rows) where
-    pub row_words : 4 * i + 4 ≤ length ws
-    row_words = omega (arith, (bounds r ws v).words, (bounds r ws v).rows_most)
-
-    pub row_bytes : (s : Segment) → s ≡ segment_at ws i → bytes s ≤ 1048576
+    pub row_bytes : (s : Segment) → s ≡ nth_row (segments_in r.rows ws) i → bytes s ≤ 1048576
     row_bytes s e = omega (arith, (bounds r ws v).row i h, (bounds r ws v).granules, ap (λ (k : Segment). k.length) e)
 
   -- What one order decides, another with the same first reason does.
@@ -64,7 +62,7 @@ module _ (r : Heap) (ws : List ℕ) where
 -- A row in use has the block at x.
 pub record BlockRow (r : Heap) (ws : List ℕ) (x row : ℕ) : Type 0 where
   pub in_use : row < r.rows
-  pub block : block_at x (blocks_in r.rows ws) ≡ Some (segment_at ws row)
+  pub block : block_at x (blocks_in r.rows ws) ≡ Some (nth_row (segments_in r.rows ws) row)
 
 -- So has the row of a block that was found.
 pub row_found : {r : Heap} {ws : List ℕ} {x : ℕ} {found : Found} → IsBlock r ws x found → BlockRow r ws x found.row
@@ -72,14 +70,14 @@ row_found b = record { in_use = b.in_use; block = b.block ∙ ap Some b.there }
 
 -- A row that has the block at x is live and begins there.
 module _ {r : Heap} {ws : List ℕ} {x i : ℕ} (b : BlockRow r ws x i) where
-  pub row_live : is_live (segment_at ws i) ≡ true
-  row_live = first_picked (λ (b : Segment). eqb (offset b) x) is_live (segments_in r.rows ws) (segment_at ws i) b.block
+  pub row_live : is_live (nth_row (segments_in r.rows ws) i) ≡ true
+  row_live = first_picked (λ (b : Segment). eqb (offset b) x) is_live (segments_in r.rows ws) (nth_row (segments_in r.rows ws) i) b.block
 
-  pub row_at : offset (segment_at ws i) ≡ x
-  row_at = eqb-true _ x (first_some (λ (b : Segment). eqb (offset b) x) (blocks_in r.rows ws) (segment_at ws i) b.block)
+  pub row_at : offset (nth_row (segments_in r.rows ws) i) ≡ x
+  row_at = eqb-true _ x (first_some (λ (b : Segment). eqb (offset b) x) (blocks_in r.rows ws) (nth_row (segments_in r.rows ws) i) b.block)
 
 -- The guard of a block that is read in its row, in a valid heap that is lent the whole arena:
-module _ {r : Heap} {ws : List ℕ} {x i : ℕ} (b : BlockRow r ws x i) (v : valid r ws ≡ true) (arena : List ℕ) (whole : has_recorded_length (config_of r) arena ≡ true) (s : Segment) (e : s ≡ segment_at ws i) where
+module _ {r : Heap} {ws : List ℕ} {x i : ℕ} (b : BlockRow r ws x i) (v : valid r ws ≡ true) (arena : List ℕ) (whole : has_recorded_length (config_of r) arena ≡ true) (s : Segment) (e : s ≡ nth_row (segments_in r.rows ws) i) where
   at_row : block_at x (blocks_in r.rows ws) ≡ Some s
   at_row = b.block ∙ ap Some (sym e)
 
@@ -111,11 +109,17 @@ module _ (r : Heap) (ws : List ℕ) (o x : ℕ) where
   size_order = block_size_order (valid r ws) (config_of r) (state_in r ws) o x
 
   -- In a valid heap the row with the granule of byte x, read as s, says what an owner's offset gets.
-  module _ (v : valid r ws ≡ true) (known : is_owner o ≡ true) (i : ℕ) (w : RowOf r.rows (x / 16) ws i) (s : Segment) (e : s ≡ segment_at ws i) where
+  module _ (v : valid r ws ≡ true) (known : is_owner o ≡ true) (xs : List Segment) (read : xs ≡ segments_in r.rows ws) (i : ℕ) (found : RowOf xs (x / 16) i) (s : Segment) (is : s ≡ nth_row xs i) where
+    w : RowOf (segments_in r.rows ws) (x / 16) i
+    w = subst (λ (ys : List Segment). RowOf ys (x / 16) i) read found
+
+    e : s ≡ nth_row (segments_in r.rows ws) i
+    e = is ∙ ap (λ (ys : List Segment). nth_row ys i) read
+
     -- in the arena, the block over the granule is s if that is live, and else there is none
     over : leb (16 * r.granules) x ≡ false → block_over (x / 16) blocks ≡ (if is_live s then Some s else None)
     over p =
-        over_row (config_of r) r.rows ws (x / 16) i (valid_map r ws v) (omega tests) w
+        over_row (config_of r) (segments_in r.rows ws) (x / 16) i (valid_map r ws v) (omega tests) w
         ∙ ap (λ (k : Segment). if is_live k then Some k else None) (sym e)
 
     -- past 15, 16, 17 and 9 the block at x is s
@@ -146,7 +150,7 @@ module _ (r : Heap) (ws : List ℕ) (o x : ℕ) where
     pub offset_passed : first_reason (segment_order s (16 * r.granules) o x) ≡ None → LookedUp look_order r ws x (Ok (record { row = i; block = s }))
     offset_passed q =
         let n : NoReason (segment_order s (16 * r.granules) o x) = no_reason (segment_order s (16 * r.granules) o x) q in
-        (asked ∙ q, record { in_use = w.in_use; there = e; block = begun n.0 (not-false (eqb (x % 16) 0) n.1.0) n.1.1.0 n.1.1.1.0 })
+        (asked ∙ q, record { in_use = omega (arith, w.in_use, length_segments r.rows ws); there = e; block = begun n.0 (not-false (eqb (x % 16) 0) n.1.0) n.1.1.0 n.1.1.1.0 })
 
   -- The enquiry for a block's size: refused, and of what was found in a valid heap.
   size_refused : (why : Refusal) → first_reason size_order ≡ Some why → (out : Result BlockSize Refusal) → out ≡ Err why → BlockSizeDone r ws o x out
@@ -249,7 +253,7 @@ module _ (r : Heap) (ws : List ℕ) (o x : ℕ) where
         -- The rows afterwards are those of the other blocks.
         rows : released was.row (segments_in r.rows ws) ≡ map_of (config_of r) (without x blocks)
         rows =
-            release_rows (config_of r) r.rows ws was.row found.1.in_use (valid_map r ws good.valid) (row_live (row_found found.1))
+            release_rows (config_of r) (segments_in r.rows ws) was.row (omega (arith, found.1.in_use, length_segments r.rows ws)) (valid_map r ws good.valid) (row_live (row_found found.1))
             ∙ ap (λ (k : ℕ). map_of (config_of r) (without k blocks)) (row_at (row_found found.1))
 
         few : rows_of (config_of r) (without x blocks) ≤ r.capacity

@@ -18,10 +18,11 @@ use Rattle.model.proofs.Refusing.{no_reason, first_then, first_stays}
 use Rattle.model.proofs.Ordered.{Live, total_insert}
 use Rattle.model.proofs.Allocated.{Proper, proper, fit_at, Allocated, allocated, allocated_whole}
 use Rattle.model.proofs.Guards.{guard_inside}
-use Rattle.segments.specs.Rows.{segment_at, segments_in, blocks_in, Rewritten}
+use Rattle.segments.specs.Rows.{nth_row, segments_in, blocks_in, Rewritten}
 use Rattle.segments.specs.Tiling.{is_map}
 use Rattle.segments.specs.Search.{Found}
 use Rattle.segments.specs.Changes.{replaced, cut}
+use Rattle.segments.proofs.Rows.{length_segments}
 use Rattle.segments.proofs.Finding.{found_cut, found_count}
 use Rattle.heap.specs.Stored.{Stored, handed, store, config_of, state_in}
 use Rattle.heap.specs.Valid.{valid}
@@ -44,19 +45,20 @@ module _ (r : Heap) (ws : List ℕ) (o n a : ℕ) where
 
   module _ (v : valid r ws ≡ true) (p : first_reason (request_order o n a) ≡ None) where
     -- What it says.
-    module _ (g : ℕ) (size : g ≡ needed (config_of r) n) (f : Option Place)
-        (w : (c : Config) → c.base ≡ r.base → c.granules ≤ 4294967295 → is_map c (segments_in r.rows ws) ≡ true → Found c r.rows g a ws f) where
-      here : Found (config_of r) r.rows (needed (config_of r) n) a ws f
+    module _ (xs : List Segment) (read : xs ≡ segments_in r.rows ws) (g : ℕ) (size : g ≡ needed (config_of r) n) (f : Option Place)
+        (w : (c : Config) → c.base ≡ r.base → c.granules ≤ 4294967295 → is_map c xs ≡ true → Found c xs g a f) where
+      here : Found (config_of r) (segments_in r.rows ws) (needed (config_of r) n) a f
       here =
-          subst (λ (k : ℕ). Found (config_of r) r.rows k a ws f) size
-          (w (config_of r) refl (omega (arith, (bounds r ws v).granules)) (valid_map r ws v))
+          subst (λ (k : ℕ). Found (config_of r) (segments_in r.rows ws) k a f) size
+          (subst (λ (ys : List Segment). Found (config_of r) ys g a f) read
+          (w (config_of r) refl (omega (arith, (bounds r ws v).granules)) (rw read (valid_map r ws v))))
 
       pub no_place_lem : f ≡ None → first_reason last ≡ Some refusal.NoPlace
-      no_place_lem q = let z : Found (config_of r) r.rows (needed (config_of r) n) a ws None = subst (Found (config_of r) r.rows (needed (config_of r) n) a ws) q here in rw z.lowest
+      no_place_lem q = let z : Found (config_of r) (segments_in r.rows ws) (needed (config_of r) n) a None = subst (Found (config_of r) (segments_in r.rows ws) (needed (config_of r) n) a) q here in rw z.lowest
 
       module _ (p' : Place) (q : f ≡ Some p') where
-        at : Found (config_of r) r.rows (needed (config_of r) n) a ws (Some p')
-        at = subst (Found (config_of r) r.rows (needed (config_of r) n) a ws) q here
+        at : Found (config_of r) (segments_in r.rows ws) (needed (config_of r) n) a (Some p')
+        at = subst (Found (config_of r) (segments_in r.rows ws) (needed (config_of r) n) a) q here
 
         pub lowest_at : Lowest r ws n a p'.row p'.start
         lowest_at = record { lowest = at.lowest; room = at.room }
@@ -64,13 +66,16 @@ module _ (r : Heap) (ws : List ℕ) (o n a : ℕ) where
         abbrev asked : Segment
         asked = block (config_of r) o n p'.start
 
-        module _ (x b : Segment) (row : x ≡ segment_at ws p'.row) (is : b ≡ asked) (k : ℕ) (pieces : k ≡ length (cut x b)) where
+        module _ (x b : Segment) (row : x ≡ nth_row xs p'.row) (is : b ≡ asked) (k : ℕ) (pieces : k ≡ length (cut x b)) where
+          row_is : x ≡ nth_row (segments_in r.rows ws) p'.row
+          row_is = row ∙ ap (λ (ys : List Segment). nth_row ys p'.row) read
+
           count : rows_of (config_of r) (insert asked (blocks_in r.rows ws)) ≡ r.rows - 1 + k
           count =
               let l : Proper o n a = proper o n a (no_reason (request_order o n a) p) in
-              found_count (config_of r) r.rows (needed (config_of r) n) a ws p' asked (valid_map r ws v) at
+              found_count (config_of r) (segments_in r.rows ws) (needed (config_of r) n) a p' asked (valid_map r ws v) at
               (record { owned = l.owned; known = l.known; requested = l.size; sized = refl }) refl refl
-              ∙ ap (λ (k : ℕ). r.rows - 1 + k) (sym (pieces ∙ (λ j. length (cut (row j) (is j)))))
+              ∙ (λ j. length_segments r.rows ws j - 1 + sym (pieces ∙ (λ j. length (cut (row_is j) (is j)))) j)
 
           pub table_full_lem : r.capacity < r.rows - 1 + k → first_reason last ≡ Some refusal.TableFull
           table_full_lem h = rw (fit_at (config_of r) (state_in r ws) o n a p'.start at.lowest, lt-ltb r.capacity (rows_of (config_of r) (insert asked (blocks_in r.rows ws))) (omega (arith, count)))
@@ -179,21 +184,24 @@ module _ (r : Heap) (ws bytes : List ℕ) (o n a : ℕ) where
           subst (λ (x : Segment). rows_of (config_of r) (insert x (blocks_in r.rows ws)) ≤ r.capacity)
           (ap (block (config_of r) o n) start_is ∙ sym (is (config_of r) refl)) granted.rows
 
-      at_row : Found (config_of r) r.rows (needed (config_of r) n) a ws (Some place)
+      at_row : Found (config_of r) (segments_in r.rows ws) (needed (config_of r) n) a (Some place)
       at_row = record { lowest = d.1.lowest; room = d.1.room }
+
+      in_use : i < r.rows
+      in_use = omega (arith, d.1.room.in_use, length_segments r.rows ws)
 
       -- It ends in the arena.
       pub inside : s + b.length ≤ r.granules
-      inside = omega (arith, length_is, d.1.room.up_to, bounded.row i d.1.room.in_use)
+      inside = omega (arith, length_is, d.1.room.up_to, bounded.row i in_use)
 
       -- What the cut of the row asks for.
-      pub row_asked : (i < r.rows) × (b.start + b.length ≤ 4294967295) × ((segment_at ws i).start + (segment_at ws i).length ≤ 4294967295)
-          × (4 * (r.rows - 1 + length (cut (segment_at ws i) b)) ≤ length ws)
+      pub row_asked : (i < r.rows) × (b.start + b.length ≤ 4294967295) × ((nth_row (segments_in r.rows ws) i).start + (nth_row (segments_in r.rows ws) i).length ≤ 4294967295)
+          × (4 * (r.rows - 1 + length (cut (nth_row (segments_in r.rows ws) i) b)) ≤ length ws)
       row_asked = (
-        d.1.room.in_use,
+        in_use,
         omega (arith, inside, begins, bounded.granules),
-        omega (arith, bounded.row i d.1.room.in_use, bounded.granules),
-        omega (arith, found_count (config_of r) r.rows (needed (config_of r) n) a ws place b (valid_map r ws checked) at_row live begins length_is, rows_few, bounded.words),
+        omega (arith, bounded.row i in_use, bounded.granules),
+        omega (arith, found_count (config_of r) (segments_in r.rows ws) (needed (config_of r) n) a place b (valid_map r ws checked) at_row live begins length_is, length_segments r.rows ws, rows_few, bounded.words),
       )
 
       -- The sums that are taken fit a word.
@@ -216,9 +224,9 @@ module _ (r : Heap) (ws bytes : List ℕ) (o n a : ℕ) where
         ),
       )
 
-      module _ (m : ℕ) (after : List ℕ) (w : Rewritten r.rows ws (replaced i 1 (cut (segment_at ws i) b) (segments_in r.rows ws)) m after) where
-        map_is : replaced i 1 (cut (segment_at ws i) b) (segments_in r.rows ws) ≡ map_of (config_of r) (insert b (blocks_in r.rows ws))
-        map_is = found_cut (config_of r) r.rows (needed (config_of r) n) a ws place b (valid_map r ws checked) at_row live begins length_is
+      module _ (m : ℕ) (after : List ℕ) (w : Rewritten r.rows ws (replaced i 1 (cut (nth_row (segments_in r.rows ws) i) b) (segments_in r.rows ws)) m after) where
+        map_is : replaced i 1 (cut (nth_row (segments_in r.rows ws) i) b) (segments_in r.rows ws) ≡ map_of (config_of r) (insert b (blocks_in r.rows ws))
+        map_is = found_cut (config_of r) (segments_in r.rows ws) (needed (config_of r) n) a place b (valid_map r ws checked) at_row live begins length_is
 
         pub rows_fit : m ≤ 4294967295
         rows_fit = omega (arith, w.rows, ap length map_is, rows_few, bounded.capacity)

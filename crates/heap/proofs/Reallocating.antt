@@ -25,7 +25,7 @@ use Rattle.model.proofs.Staying.{moves_longer, moves_clear}
 use Rattle.model.proofs.Refitted.{Accepted, accepted}
 use Rattle.model.proofs.Resizing.{exchanged}
 use Rattle.model.proofs.ZeroSize.{zero_order, zero_answer}
-use Rattle.segments.specs.Rows.{blocks_in, Rewritten}
+use Rattle.segments.specs.Rows.{segments_in, blocks_in, Rewritten}
 use Rattle.segments.specs.Search.{others}
 use Rattle.segments.specs.Changes.{Replaceable}
 use Rattle.segments.proofs.Replaced.{inside}
@@ -116,10 +116,10 @@ module _ (r : Heap) (ws arena : List ℕ) (o x n : ℕ) (some_size : 1 ≤ n) wh
         long : new.length ≡ needed (config_of r) n
         long = ap (λ (b : Segment). b.length) is
 
-        may : Replaceable (config_of r) r.rows i new ws
+        may : Replaceable (config_of r) (segments_in r.rows ws) i new
         may = replaceable r ws checked o has.freed.owner n some_size x to.old d.1.old s d.1.new new is
 
-        left_are : insert new (others r.rows i ws) ≡ insert (block (config_of r) o n s) (without x blocks)
+        left_are : insert new (others (segments_in r.rows ws) i) ≡ insert (block (config_of r) o n s) (without x blocks)
         left_are = same_blocks r ws checked o has.freed.owner n some_size x to.old d.1.old s d.1.new new is
 
         rows_few : rows_of (config_of r) (insert (block (config_of r) o n s) (without x blocks)) ≤ r.capacity
@@ -129,7 +129,10 @@ module _ (r : Heap) (ws arena : List ℕ) (o x n : ℕ) (some_size : 1 ≤ n) wh
             subst (λ (b : Segment). rows_of (config_of r) (insert b (without x blocks)) ≤ r.capacity) z has.rows
 
         -- What the table's part asks for.
-        pub replace_asked : (c : Config) × Replaceable c r.rows i new ws × (4 * rows_of c (insert new (others r.rows i ws)) ≤ length ws)
+        pub replace_words : 4 * r.rows ≤ length ws
+        replace_words = omega (arith, bounded.words, bounded.rows_most)
+
+        pub replace_asked : (c : Config) × Replaceable c (segments_in r.rows ws) i new × (4 * rows_of c (insert new (others (segments_in r.rows ws) i)) ≤ length ws)
         replace_asked = (config_of r, may, omega (arith, ap (rows_of (config_of r)) left_are, rows_few, bounded.words))
 
         -- Both places are in the arena, so that their bounds fit a word,
@@ -201,7 +204,7 @@ module _ (r : Heap) (ws arena : List ℕ) (o x n : ℕ) (some_size : 1 ≤ n) wh
             (omega (arith, long, used_is, most), omega (arith, bounded.used, bounded.peak, bounded.granules, new_inside, arena_most))
 
         module _ (m : ℕ) (after : List ℕ)
-            (w : (c : Config) → Replaceable c r.rows i new ws → Rewritten r.rows ws (map_of c (insert new (others r.rows i ws))) m after) where
+            (w : (c : Config) → Replaceable c (segments_in r.rows ws) i new → Rewritten r.rows ws (map_of c (insert new (others (segments_in r.rows ws) i))) m after) where
           pub rows_fit : m ≤ 4294967295
           rows_fit = omega (arith, (w (config_of r) may).rows, ap (rows_of (config_of r)) left_are, rows_few, bounded.capacity)
 

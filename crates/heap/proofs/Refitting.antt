@@ -23,10 +23,11 @@ use Rattle.model.proofs.Released.{Released, released}
 use Rattle.model.proofs.Kept.{Kept}
 use Rattle.model.proofs.Refitted.{refitted_at, free_refuses, size_decides}
 use Rattle.model.proofs.Resizing.{owner_without}
-use Rattle.segments.specs.Rows.{segment_at, segments_in, blocks_in}
+use Rattle.segments.specs.Rows.{nth_row, segments_in, blocks_in}
 use Rattle.segments.specs.Tiling.{is_map}
 use Rattle.segments.specs.Search.{others, refit_start}
 use Rattle.segments.specs.Changes.{Replaceable}
+use Rattle.segments.proofs.Rows.{length_segments}
 use Rattle.segments.proofs.MapTiles.{live_formed, owner_not_0}
 use Rattle.segments.proofs.TilesMap.{map_charged}
 use Rattle.heap.specs.Stored.{config_of, state_in}
@@ -60,44 +61,46 @@ module _ (r : Heap) (ws : List ℕ) (v : valid r ws ≡ true) (o : ℕ) (known :
     b = row_found here
 
     -- the blocks beside the one in row i
-    others_are : others r.rows i ws ≡ without x blocks
+    others_are : others (segments_in r.rows ws) i ≡ without x blocks
     others_are = ap (λ (k : ℕ). without k blocks) (row_at b)
 
-    starts : (segment_at ws i).start ≡ x / 16
+    starts : (nth_row (segments_in r.rows ws) i).start ≡ x / 16
     starts = omega (arith, row_at b)
 
     -- the resized block is at the start that is looked for
-    refit_is : refit (config_of r) blocks o x n ≡ option_map_or (λ s. Some (block (config_of r) o n s)) (refit_start (config_of r) r.rows i (needed (config_of r) n) ws) None
+    refit_is : refit (config_of r) blocks o x n ≡ option_map_or (λ s. Some (block (config_of r) o n s)) (refit_start (config_of r) (segments_in r.rows ws) i (needed (config_of r) n)) None
     refit_is =
-        let e : refit_start (config_of r) r.rows i (needed (config_of r) n) ws ≡ (if stays (config_of r) blocks x n then Some (x / 16) else lowest_start (config_of r) blocks (needed (config_of r) n) 16) =
+        let e : refit_start (config_of r) (segments_in r.rows ws) i (needed (config_of r) n) ≡ (if stays (config_of r) blocks x n then Some (x / 16) else lowest_start (config_of r) blocks (needed (config_of r) n) 16) =
         λ j. if room (config_of r) (others_are j) (needed (config_of r) n) (starts j) then Some (starts j) else lowest_start (config_of r) blocks (needed (config_of r) n) 16 in
         rw e (split (stays (config_of r) blocks x n) (λ q. rw q) (λ q. rw q))
 
     -- A resized block at its start, read as d: it may take the place of the one in row i.
     module _ (s : ℕ) (e : refit (config_of r) blocks o x n ≡ Some (block (config_of r) o n s)) (d : Segment) (is : d ≡ block (config_of r) o n s) where
-      pub replaceable : Replaceable (config_of r) r.rows i d ws
+      pub replaceable : Replaceable (config_of r) (segments_in r.rows ws) i d
       replaceable =
           let at = refitted_at (config_of r) (state_in r ws) o x n s e in
           let l : Live (config_of r) (block (config_of r) o n s) = record { owned = owner_least o known; known = owner_most o known; requested = some_size; sized = refl } in
-          subst (λ (d : Segment). Replaceable (config_of r) r.rows i d ws) (sym is)
+          subst (λ (d : Segment). Replaceable (config_of r) (segments_in r.rows ws) i d) (sym is)
           (record {
-            in_use = b.in_use;
+            in_use = omega (arith, b.in_use, length_segments r.rows ws);
             map = valid_map r ws v;
             small = omega (arith, bounded.granules);
             old = row_live b;
             formed = live_formed (config_of r) (block (config_of r) o n s) l;
             live = rw (owner_not_0 (config_of r) (block (config_of r) o n s) l);
             fits = rw others_are (both_true _ _ (le-leb (s + needed (config_of r) n) r.granules at.0) at.1);
-            words = omega (arith, bounded.words, bounded.rows_most);
           })
 
-      pub same_blocks : insert d (others r.rows i ws) ≡ insert (block (config_of r) o n s) (without x blocks)
+      pub same_blocks : insert d (others (segments_in r.rows ws) i) ≡ insert (block (config_of r) o n s) (without x blocks)
       same_blocks j = insert (is j) (others_are j)
 
       -- 8, or the place.
-      module _ (count : ℕ) (counted : (c : Config) → Replaceable c r.rows i d ws → count ≡ rows_of c (insert d (others r.rows i ws))) where
+      module _ (count : ℕ) (xs : List Segment) (read : xs ≡ segments_in r.rows ws) (counted : (c : Config) → Replaceable c xs i d → count ≡ rows_of c (insert d (others xs i))) where
         rows_are : count ≡ rows_of (config_of r) (insert (block (config_of r) o n s) (without x blocks))
-        rows_are = counted (config_of r) replaceable ∙ ap (rows_of (config_of r)) same_blocks
+        rows_are =
+            counted (config_of r) (rw read replaceable)
+            ∙ ap (λ (ys : List Segment). rows_of (config_of r) (insert d (others ys i))) read
+            ∙ ap (rows_of (config_of r)) same_blocks
 
         pub replace_full : r.capacity < count → first_reason (replace_order (config_of r) (state_in r ws) o x n) ≡ Some refusal.TableFull
         replace_full h = rw (e, lt-ltb r.capacity (rows_of (config_of r) (insert (block (config_of r) o n s) (without x blocks))) (omega (arith, rows_are)))
@@ -107,13 +110,13 @@ module _ (r : Heap) (ws : List ℕ) (v : valid r ws ≡ true) (o : ℕ) (known :
             (rw (e, le-ltb r.capacity (rows_of (config_of r) (insert (block (config_of r) o n s) (without x blocks))) (omega (arith, rows_are))), record { old = here; new = e })
 
     -- What the search says.
-    module _ (g : ℕ) (size : g ≡ needed (config_of r) n) (f : Option ℕ)
-        (w : (c : Config) → c.base % 16 ≡ 0 → c.granules ≤ 65536 → is_map c (segments_in r.rows ws) ≡ true → is_live (segment_at ws i) ≡ true → f ≡ refit_start c r.rows i g ws) where
+    module _ (xs : List Segment) (read : xs ≡ segments_in r.rows ws) (g : ℕ) (size : g ≡ needed (config_of r) n) (f : Option ℕ)
+        (w : (c : Config) → c.base % 16 ≡ 0 → c.granules ≤ 65536 → is_map c xs ≡ true → is_live (nth_row xs i) ≡ true → f ≡ refit_start c xs i g) where
       found_is : refit (config_of r) blocks o x n ≡ option_map_or (λ s. Some (block (config_of r) o n s)) f None
       found_is =
           refit_is
           ∙ ap (λ (t : Option ℕ). option_map_or (λ s. Some (block (config_of r) o n s)) t None)
-          (sym (w (config_of r) bounded.base bounded.granules (valid_map r ws v) (row_live b) ∙ ap (λ (k : ℕ). refit_start (config_of r) r.rows i k ws) size))
+          (sym (w (config_of r) bounded.base bounded.granules (rw read (valid_map r ws v)) (rw read (row_live b)) ∙ (λ j. refit_start (config_of r) (read j) i (size j))))
 
       -- 7: there is no place,
       pub replace_nowhere : f ≡ None → first_reason (replace_order (config_of r) (state_in r ws) o x n) ≡ Some refusal.NoPlace

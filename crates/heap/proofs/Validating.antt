@@ -86,7 +86,7 @@ no_map r ws q =
     sym (not_valid r ws (λ a. clash _ (parts_map (config_of r) (segments_in r.rows ws) (record { tiled = a.tiled; formed = a.formed; apart = a.apart })) q))
 
 -- With the figures counted in the rows in use, which are a map.
-module _ (r : Heap) (ws : List ℕ) (k : Census) (map : is_map (config_of r) (segments_in r.rows ws) ≡ true) (figures : Figures (config_of r) r.rows ws k) where
+module _ (r : Heap) (ws : List ℕ) (k : Census) (map : is_map (config_of r) (segments_in r.rows ws) ≡ true) (figures : Figures (config_of r) (segments_in r.rows ws) k) where
   these : MapParts (config_of r) (segments_in r.rows ws)
   these = map_parts (config_of r) (segments_in r.rows ws) map
 
@@ -149,6 +149,6 @@ module _ (r : Heap) (ws : List ℕ) (k : Census) (map : is_map (config_of r) (se
       (granules_kept a))
 
 -- What a check tells of a valid heap.
-pub examined : (r : Heap) (ws : List ℕ) (k : Census) → is_map (config_of r) (segments_in r.rows ws) ≡ true → Figures (config_of r) r.rows ws k → framed r ws ≡ true
+pub examined : (r : Heap) (ws : List ℕ) (k : Census) → is_map (config_of r) (segments_in r.rows ws) ≡ true → Figures (config_of r) (segments_in r.rows ws) k → framed r ws ≡ true
     → agrees_with r ws k ≡ true → Examination r ws k
 examined r ws k map figures f q = record { valid = sym (agrees_valid r ws k map figures f) ∙ q; figures = figures }

@@ -7,7 +7,7 @@ use Rattle.model.specs.Allocation.{needed, lowest_start, block, block_at, refit}
 use Rattle.model.specs.SegmentMap.{is_free}
 use Rattle.model.specs.Reasons.{not_aligned}
 use Rattle.model.specs.Orders.{Order, first_reason}
-use Rattle.segments.specs.Rows.{segment_at, blocks_in}
+use Rattle.segments.specs.Rows.{segments_in, nth_row, blocks_in}
 use Rattle.segments.specs.Search.{Room}
 use Rattle.segments.specs.Counting.{Figures}
 use Rattle.heap.specs.Stored.{config_of}
@@ -42,7 +42,7 @@ agrees_with r ws k =
 -- The record and the table are valid, and the figures are those of the live blocks and free runs.
 pub record Examination (r : Heap) (ws : List ℕ) (k : Census) : Type 0 where
   pub valid : valid r ws ≡ true
-  pub figures : Figures (config_of r) r.rows ws k
+  pub figures : Figures (config_of r) (segments_in r.rows ws) k
 
 -- What a check of a record and a table tells: the figures of a valid heap, or 1 if they are none.
 abbrev pub Examined : Heap → List ℕ → Result Census Refusal → Type 0
@@ -52,7 +52,7 @@ Examined r ws (Err why) = (valid r ws ≡ false) × (why ≡ refusal.InvalidHeap
 -- A place for a block: the start is the lowest, and the row is free and has room from there on.
 pub record Lowest (r : Heap) (ws : List ℕ) (n a row start : ℕ) : Type 0 where
   pub lowest : lowest_start (config_of r) (blocks_in r.rows ws) (needed (config_of r) n) a ≡ Some start
-  pub room : Room r.rows (needed (config_of r) n) ws row start
+  pub room : Room (segments_in r.rows ws) (needed (config_of r) n) row start
 
 -- What is decided by an order of an allocation of n bytes on a boundary of a bytes: why it is refused, or its place.
 abbrev pub Decided : Order Refusal → Heap → List ℕ → ℕ → ℕ → Result Place Refusal → Type 0
@@ -72,7 +72,7 @@ segment_order s bytes o x =
 -- What was found is the block at x, and its row is one in use.
 pub record IsBlock (r : Heap) (ws : List ℕ) (x : ℕ) (found : Found) : Type 0 where
   pub in_use : found.row < r.rows
-  pub there : found.block ≡ segment_at ws found.row
+  pub there : found.block ≡ nth_row (segments_in r.rows ws) found.row
   pub block : block_at x (blocks_in r.rows ws) ≡ Some found.block
 
 -- What is decided of a call on the block at x by an order: why it is refused, or the block.

@@ -13,7 +13,7 @@ ghost use Rattle.heap.specs.Steps.{Examined, Decided};
 use crate::ranges::{is_alignment, is_owner};
 use crate::record::{Heap, Outcome};
 use model::{Refusal, Segment, granules_with};
-use segments::{Census, Place, first_fit, pieces, row, split_row};
+use segments::{Census, Place, RowList, pieces, split_row};
 
 /// 2, 3, 4: what is asked of an allocation's numbers alone.
 fn check_request(owner: u32, size: u32, align: u32) -> Result<(), Refusal>
@@ -76,14 +76,14 @@ impl Heap {
         requires proper { first_reason (request_order owner size align) ≡ None }
         ensures { Decided (place_order (config_of self) (state_in self table.now) owner size align) self table.now size align result }
     {
-        let rows = self.rows as usize;
+        let rows = RowList::new(table, self.rows as usize);
         let need = granules_with(size, self.guards);
-        let Some(at) = first_fit(table, rows, self.base, need, align) else {
+        let Some(at) = rows.first_fit(self.base, need, align) else {
             return Err(Refusal::NoPlace);
         };
-        let s = row(table, at.row);
+        let s = rows.get(at.row);
         let wanted = new_block(owner, size, at.start, self.guards);
-        if (self.capacity as usize) < rows - 1 + pieces(s, wanted) {
+        if (self.capacity as usize) < rows.len() - 1 + pieces(s, wanted) {
             return Err(Refusal::TableFull);
         }
         Ok(at)

@@ -13,7 +13,7 @@ ghost use Rattle.heap.specs.Steps.{segment_order, IsBlock, LookedUp};
 use crate::ranges::is_owner;
 use crate::record::{Heap, Outcome};
 use model::{Refusal, Segment};
-use segments::{fill, release_row, row, row_of};
+use segments::{RowList, fill, release_row};
 
 /// A live block, and the row that it is in.
 #[derive(Clone, Copy, Debug, PartialEq, Eq)]
@@ -53,8 +53,9 @@ impl Heap {
         if !is_owner(owner) {
             return Err(Refusal::BadOwner);
         }
-        let i = row_of(table, self.rows as usize, offset / 16);
-        let block = row(table, i);
+        let rows = RowList::new(table, self.rows as usize);
+        let i = rows.row_of(offset / 16);
+        let block = rows.get(i);
         check_offset(block, 16 * self.granules, owner, offset)?;
         Ok(Found { row: i, block })
     }

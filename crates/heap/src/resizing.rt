@@ -15,7 +15,7 @@ use crate::allocating::{exceeds, new_block};
 use crate::freeing::Found;
 use crate::record::{Heap, Outcome};
 use model::{Refusal, Resized, Segment, granules_with};
-use segments::{Census, move_bytes, refit, replace_row, rows_after_replace};
+use segments::{Census, RowList, move_bytes, replace_row};
 
 /// A block that is resized, and where it is to begin.
 #[derive(Clone, Copy, Debug, PartialEq, Eq)]
@@ -39,13 +39,13 @@ impl Heap {
         requires old { (x : ℕ) × IsBlock self table.now x old }
         ensures { (x : ℕ) → IsBlock self table.now x old → ResizeDecided (replace_order (config_of self) (state_in self table.now) owner x size) self table.now owner x size result }
     {
-        let rows = self.rows as usize;
+        let rows = RowList::new(table, self.rows as usize);
         let need = granules_with(size, self.guards);
-        let Some(start) = refit(table, rows, old.row, need) else {
+        let Some(start) = rows.refit(old.row, need) else {
             return Err(Refusal::NoPlace);
         };
         let wanted = new_block(owner, size, start, self.guards);
-        if (self.capacity as usize) < rows_after_replace(table, rows, old.row, wanted) {
+        if (self.capacity as usize) < rows.rows_after_replace(old.row, wanted) {
             return Err(Refusal::TableFull);
         }
         Ok(Refitted { old, start })

@@ -7,7 +7,7 @@ ghost use Rattle.heap.specs.Steps.{framed, keeps_all, agrees_with, Examined};
 
 use crate::record::Heap;
 use model::Refusal;
-use segments::{Census, take_census, zero_from};
+use segments::{Census, RowList, zero_from};
 
 /// No owner's figure exceeds its quota.
 fn keeps(figures: [u32; 8], quotas: [u32; 8]) -> bool
@@ -60,7 +60,8 @@ impl Heap {
         if !self.is_framed(table) {
             return Err(Refusal::InvalidHeap);
         }
-        let Some(k) = take_census(table, self.rows as usize, self.granules, self.guards) else {
+        let rows = RowList::new(table, self.rows as usize);
+        let Some(k) = rows.take_census(self.granules, self.guards) else {
             return Err(Refusal::InvalidHeap);
         };
         if !self.agrees(table, k) {

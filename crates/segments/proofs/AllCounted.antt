@@ -8,7 +8,6 @@ use Rattle.model.specs.Quantities.{Config}
 use Rattle.model.specs.Allocation.{granules_of, owned_by}
 use Rattle.model.specs.SegmentMap.{is_free, is_live}
 use Rattle.model.proofs.Choosing.{split, tests, clash, parts, both_true, every_head, length_total}
-use Rattle.segments.specs.Rows.{segments_in}
 use Rattle.segments.specs.Tiling.{tiles, well_formed, is_map}
 use Rattle.segments.specs.Counting.{Bounded, Counted}
 use Rattle.segments.specs.Steps.{none_counted, follows_of, free_of, live_of}
@@ -108,26 +107,26 @@ module _ (c : Config) (k : Census) (x : Segment) (xs all : List Segment) (a : Ah
         held = more_sums length_of k.held x xs all o (omega tests) f.owner g a.held;
       }
 
-module _ (c : Config) (n : ℕ) (ws : List ℕ) (k : Census) (a : Ahead c k [] (segments_in n ws)) where
+module _ (c : Config) (xs : List Segment) (k : Census) (a : Ahead c k [] xs) where
   -- Rows that do not end with the arena are no map.
-  pub none_ends : (k.end ≡ c.granules → ⊥) → is_map c (segments_in n ws) ≡ false
+  pub none_ends : (k.end ≡ c.granules → ⊥) → is_map c xs ≡ false
   none_ends z = a.map ∙ rw (ne_eqb k.end c.granules z)
 
   -- Rows that do are one, with the figures counted.
-  pub whole : Bounded c.granules k → k.end ≡ c.granules → Counted c n ws (Some k)
+  pub whole : Bounded c.granules k → k.end ≡ c.granules → Counted c xs (Some k)
   whole b z =
-      let m : is_map c (segments_in n ws) ≡ true = a.map ∙ rw (eq-eqb k.end c.granules z) in
+      let m : is_map c xs ≡ true = a.map ∙ rw (eq-eqb k.end c.granules z) in
       record {
         map = sym m;
         figures = record {
           bounded = b;
           used = sym (a.used ∙ omega arith);
-          longest = rw (map_is c (segments_in n ws) m) (omega (arith, a.longest));
-          blocks = λ o i j. sym (rw (length_total (owned_by o (filter is_live (segments_in n ws)))) (a.blocks o i j ∙ omega arith));
+          longest = rw (map_is c xs m) (omega (arith, a.longest));
+          blocks = λ o i j. sym (rw (length_total (owned_by o (filter is_live xs))) (a.blocks o i j ∙ omega arith));
           held = λ o i j. sym (a.held o i j ∙ omega arith);
         };
       }
 
 -- No map is not counted.
-pub not_counted : (c : Config) (n : ℕ) (ws : List ℕ) → is_map c (segments_in n ws) ≡ false → Counted c n ws None
-not_counted c n ws m = record { map = sym m; figures = tt }
+pub not_counted : (c : Config) (xs : List Segment) → is_map c xs ≡ false → Counted c xs None
+not_counted c xs m = record { map = sym m; figures = tt }

@@ -1,6 +1,6 @@
 -- The free run around a row that is given back, and the map with a block in place of the one in that row.
 -- Assumes nothing.
-use Rattle.std.proofs.Common.{◌≡◌, ℕ, ◌+◌, ◌-◌, ◌%◌, ◌<◌, ◌≤◌, Bool, true, false, not, eqb, ltb, leb, List, [], ◌∷◌, ◌++◌, length, take, sym, refl, ap, ◌∙◌, subst, append_assoc, append-nil, arith, length-append, take_at, eqb-true, le-leb}
+use Rattle.std.proofs.Common.{◌≡◌, ℕ, ◌+◌, ◌-◌, ◌%◌, ◌<◌, ◌≤◌, Bool, true, false, not, eqb, ltb, leb, List, [], ◌∷◌, ◌++◌, length, take, drop, sym, refl, ap, ◌∙◌, subst, append_assoc, append-nil, arith, length-append, take_at, eqb-true, le-leb}
 use Rattle.std.specs.Prelude.{Option, Some, if◌then◌else◌, ◌&&◌, filter, find}
 use Rattle.std.specs.List.{list_all}
 use Rattle.std.specs.Option.{option_map}
@@ -13,15 +13,14 @@ use Rattle.model.proofs.Choosing.{split, clash, same_test, tests, parts, both_tr
 use Rattle.model.proofs.Ordered.{Live, Ordered, long, only_ordered, before_clear, after_clear}
 use Rattle.model.proofs.Offsets.{granule_in, in_granule}
 use Rattle.model.proofs.BaseLaws.{at_base, lowest_alike}
-use Rattle.segments.specs.Rows.{segment_at, segments_in, blocks_in}
+use Rattle.segments.specs.Rows.{nth_row}
 use Rattle.segments.specs.Tiling.{tiles, is_map}
 use Rattle.segments.specs.Search.{Found, others, refit_start}
 use Rattle.segments.specs.Changes.{cut, released}
 use Rattle.segments.specs.Steps.{run_from, run_to, run_around}
 use Rattle.segments.proofs.MapTiles.{live_map, is_map_lem}
 use Rattle.segments.proofs.TilesMap.{First, first, map_ordered}
-use Rattle.segments.proofs.Rows.{length_segments}
-use Rattle.segments.proofs.Reading.{rest, rest_row, rest_none, row_parted, rows_before, tiles_le, ends_by, tiles_end}
+use Rattle.segments.proofs.Reading.{rest_row, rest_none, row_parted, rows_before, tiles_le, ends_by, tiles_end}
 use Rattle.segments.proofs.Tiled.{row_next}
 use Rattle.segments.proofs.Apart.{first_free, last_free, last_end}
 use Rattle.segments.proofs.Cuts.{gap_some, gap_none, cut_length}
@@ -33,23 +32,23 @@ use Rattle.model.specs.declared.Segment.{Segment}
 use Rattle.segments.specs.declared.searching.Place.{Place}
 
 -- The free run around a row of a map: it begins no later than the row, ends no earlier, and ends in the arena.
-pub around_bounds : (c : Config) (n i : ℕ) (ws : List ℕ) → i < n → is_map c (segments_in n ws) ≡ true
-    → (run_from i ws ≤ (segment_at ws i).start) × ((segment_at ws i).start + (segment_at ws i).length ≤ run_to n i ws) × (run_to n i ws ≤ c.granules)
-around_bounds c n i ws h m =
-    let t : tiles 0 c.granules (segments_in n ws) ≡ true = search parts in
-    let x : Segment = segment_at ws i in
-    let from : run_from i ws ≤ x.start =
-    split (ltb 0 i && is_free (segment_at ws (i - 1)))
+pub around_bounds : (c : Config) (xs : List Segment) (i : ℕ) → i < length xs → is_map c xs ≡ true
+    → (run_from xs i ≤ (nth_row xs i).start) × ((nth_row xs i).start + (nth_row xs i).length ≤ run_to xs i) × (run_to xs i ≤ c.granules)
+around_bounds c xs i h m =
+    let t : tiles 0 c.granules xs ≡ true = search parts in
+    let x : Segment = nth_row xs i in
+    let from : run_from xs i ≤ x.start =
+    split (ltb 0 i && is_free (nth_row xs (i - 1)))
     (λ q. let k : ltb 0 i ≡ true = search parts in
     let z : i - 1 + 1 ≡ i = omega tests in
-    let next = rw z at (row_next 0 c.granules n ws t (i - 1) (omega tests)) in
+    let next = rw z at (row_next 0 c.granules xs t (i - 1) (omega tests)) in
     rw q (omega arith))
     (λ q. rw q (omega arith)) in
-    let to : (x.start + x.length ≤ run_to n i ws) × (run_to n i ws ≤ c.granules) =
-    split (ltb (i + 1) n && is_free (segment_at ws (i + 1)))
-    (λ q. let k : ltb (i + 1) n ≡ true = search parts in
-    rw q (omega (arith, row_next 0 c.granules n ws t i (omega tests)), row_inside c n ws (i + 1) m (omega tests)))
-    (λ q. rw q (omega arith, row_inside c n ws i m h)) in
+    let to : (x.start + x.length ≤ run_to xs i) × (run_to xs i ≤ c.granules) =
+    split (ltb (i + 1) (length xs) && is_free (nth_row xs (i + 1)))
+    (λ q. let k : ltb (i + 1) (length xs) ≡ true = search parts in
+    rw q (omega (arith, row_next 0 c.granules xs t i (omega tests)), row_inside c xs (i + 1) m (omega tests)))
+    (λ q. rw q (omega arith, row_inside c xs i m h)) in
     (from, to.0, to.1)
 
 -- a row of a map is the one over each of its granules
@@ -61,11 +60,11 @@ over_parted c ys zs x g m h =
     ∙ rw h
 
 -- The row of a map that has a granule is the one over it.
-pub segment_over : (c : Config) (n : ℕ) (ws : List ℕ) (g j : ℕ) → is_map c (segments_in n ws) ≡ true → j < n → has_granule g (segment_at ws j) ≡ true
-    → block_over g (segments_in n ws) ≡ Some (segment_at ws j)
-segment_over c n ws g j m h k =
-    let e = row_parted n ws j h in
-    ap (block_over g) e ∙ over_parted c (take j (segments_in n ws)) (rest n (j + 1) ws) (segment_at ws j) g (subst (λ r. is_map c r ≡ true) e m) k
+pub segment_over : (c : Config) (xs : List Segment) (g j : ℕ) → is_map c xs ≡ true → j < length xs → has_granule g (nth_row xs j) ≡ true
+    → block_over g xs ≡ Some (nth_row xs j)
+segment_over c xs g j m h k =
+    let e = row_parted xs j h in
+    ap (block_over g) e ∙ over_parted c (take j xs) (drop (j + 1) xs) (nth_row xs j) g (subst (λ r. is_map c r ≡ true) e m) k
 
 -- those of which a test fails may be left out
 first_skip : (p : Segment → Bool) (xs ys zs : List Segment) → list_all (λ (x : Segment). not (p x)) ys ≡ true → find p (xs ++ (ys ++ zs)) ≡ find p (xs ++ zs)
@@ -119,23 +118,23 @@ gap_count s e (x ∷ []) t k =
 gap_count s e (x ∷ y ∷ ys) t k = absurd (omega arith)
 
 -- the rows before a row end with the one before it
-rows_to : (n i : ℕ) (ws : List ℕ) → 0 < i → i < n → take i (segments_in n ws) ≡ take (i - 1) (segments_in n ws) ++ (segment_at ws (i - 1) ∷ [])
-rows_to n i ws k h =
-    let ys : List Segment = take (i - 1) (segments_in n ws) in
-    let y : Segment = segment_at ws (i - 1) in
-    let zs : List Segment = rest n (i - 1 + 1) ws in
-    ap (take i) (row_parted n ws (i - 1) (omega arith) ∙ sym (append_snoc ys y zs))
-    ∙ take_at (ys ++ (y ∷ [])) zs i (omega (arith, length-append ys (y ∷ []), rows_before n ws (i - 1) (omega arith)))
+rows_to : (xs : List Segment) (i : ℕ) → 0 < i → i < length xs → take i xs ≡ take (i - 1) xs ++ (nth_row xs (i - 1) ∷ [])
+rows_to xs i k h =
+    let ys : List Segment = take (i - 1) xs in
+    let y : Segment = nth_row xs (i - 1) in
+    let zs : List Segment = drop (i - 1 + 1) xs in
+    ap (take i) (row_parted xs (i - 1) (omega arith) ∙ sym (append_snoc ys y zs))
+    ∙ take_at (ys ++ (y ∷ [])) zs i (omega (arith, length-append ys (y ∷ []), rows_before xs (i - 1) (omega arith)))
 
-module _ (c : Config) (n i : ℕ) (ws : List ℕ) (h : i < n) (m : is_map c (segments_in n ws) ≡ true) (live : is_live (segment_at ws i) ≡ true) where
+module _ (c : Config) (xs : List Segment) (i : ℕ) (h : i < length xs) (m : is_map c xs ≡ true) (live : is_live (nth_row xs i) ≡ true) where
   abbrev row : Segment
-  row = segment_at ws i
+  row = nth_row xs i
 
   abbrev from : ℕ
-  from = run_from i ws
+  from = run_from xs i
 
   abbrev to : ℕ
-  to = run_to n i ws
+  to = run_to xs i
 
   -- the rows of the map around that row, and of the map without it
   record Around : Type 0 where
@@ -143,8 +142,8 @@ module _ (c : Config) (n i : ℕ) (ws : List ℕ) (h : i < n) (m : is_map c (seg
     left : List Segment
     right : List Segment
     after : List Segment
-    rows : segments_in n ws ≡ before ++ ((left ++ (row ∷ right)) ++ after)
-    map : map_of c (others n i ws) ≡ before ++ (run_around n i ws ∷ after)
+    rows : xs ≡ before ++ ((left ++ (row ∷ right)) ++ after)
+    map : map_of c (others xs i) ≡ before ++ (run_around xs i ∷ after)
     front : tiles 0 from before ≡ true
     filled : tiles from to (left ++ (row ∷ right)) ≡ true
     filled_left : tiles from row.start left ≡ true
@@ -157,10 +156,9 @@ module _ (c : Config) (n i : ℕ) (ws : List ℕ) (h : i < n) (m : is_map c (seg
 
   around : Around
   around =
-      let xs : List Segment = segments_in n ws in
       let ys : List Segment = take i xs in
-      let zs : List Segment = rest n (i + 1) ws in
-      let e : xs ≡ ys ++ (row ∷ zs) = row_parted n ws i h in
+      let zs : List Segment = drop (i + 1) xs in
+      let e : xs ≡ ys ++ (row ∷ zs) = row_parted xs i h in
       let g : Merged c ys row zs (released (length ys) (ys ++ (row ∷ zs))) = merged c ys zs row (subst (λ r. is_map c r ≡ true) e m) live in
       let v : Window c g.before (g.left ++ (row ∷ g.right)) g.after = g.place in
       let p : Parted v.from v.to g.left (row ∷ g.right) = part v.from v.to g.left (row ∷ g.right) v.filled in
@@ -169,23 +167,23 @@ module _ (c : Config) (n i : ℕ) (ws : List ℕ) (h : i < n) (m : is_map c (seg
       let a : v.from ≡ from =
       split (ltb 0 i)
       (λ q. rw q
-      (from_row g.before g.left v.from row.start (take (i - 1) xs) (segment_at ws (i - 1)) l g.left_free g.left_one g.before_live
-      (sym (rows_to n i ws (omega tests) h) ∙ g.front)))
+      (from_row g.before g.left v.from row.start (take (i - 1) xs) (nth_row xs (i - 1)) l g.left_free g.left_one g.before_live
+      (sym (rows_to xs i (omega tests) h) ∙ g.front)))
       (λ q. let z : 0 ≡ i = omega tests in rw q (from_none g.before g.left v.from row.start l (ap (λ (k : ℕ). take k xs) z ∙ g.front))) in
       let b : v.to ≡ to =
-      split (ltb (i + 1) n)
+      split (ltb (i + 1) (length xs))
       (λ q. rw q
-      (to_row g.right g.after (row.start + row.length) v.to (segment_at ws (i + 1)) (rest n (i + 1 + 1) ws) f.rest g.right_free g.right_one g.after_live
-      (sym (rest_row n (i + 1) ws (omega tests)) ∙ g.back)))
-      (λ q. rw q (to_none g.right g.after (row.start + row.length) v.to f.rest (sym (rest_none n (i + 1) ws (omega tests)) ∙ g.back))) in
+      (to_row g.right g.after (row.start + row.length) v.to (nth_row xs (i + 1)) (drop (i + 1 + 1) xs) f.rest g.right_free g.right_one g.after_live
+      (sym (rest_row xs (i + 1) (omega tests)) ∙ g.back)))
+      (λ q. rw q (to_none g.right g.after (row.start + row.length) v.to f.rest (sym (rest_none xs (i + 1) (omega tests)) ∙ g.back))) in
       record {
         before = g.before;
         left = g.left;
         right = g.right;
         after = g.after;
         rows = e ∙ (λ j. g.front j ++ (row ∷ g.back j)) ∙ simp append_assoc;
-        map = sym (release_rows c n ws i h m live)
-            ∙ (λ j. released (sym (rows_before n ws i h) j) (e j))
+        map = sym (release_rows c xs i h m live)
+            ∙ (λ j. released (sym (rows_before xs i h) j) (e j))
             ∙ g.one
             ∙ (λ j. g.before ++ (free_run (a j) (b j - a j) ∷ g.after));
         front = subst (λ (k : ℕ). tiles 0 k g.before ≡ true) a v.front;
@@ -200,17 +198,17 @@ module _ (c : Config) (n i : ℕ) (ws : List ℕ) (h : i < n) (m : is_map c (seg
       }
 
   -- The other blocks are in order, and their map is one.
-  pub ordered : Ordered c 0 (others n i ws)
-  ordered = only_ordered c (λ (b : Segment). not (eqb (offset b) (offset row))) 0 (blocks_in n ws) (map_ordered c (segments_in n ws) m)
+  pub ordered : Ordered c 0 (others xs i)
+  ordered = only_ordered c (λ (b : Segment). not (eqb (offset b) (offset row))) 0 (filter is_live xs) (map_ordered c xs m)
 
-  pub map_others : is_map c (map_of c (others n i ws)) ≡ true
-  map_others = is_map_lem c (others n i ws) ordered
+  pub map_others : is_map c (map_of c (others xs i)) ≡ true
+  map_others = is_map_lem c (others xs i) ordered
 
   -- Over a granule of the map without that row stands the free run if it has the granule, and else what stood there.
-  pub over_around : (g : ℕ) → block_over g (map_of c (others n i ws)) ≡ (if has_granule g (run_around n i ws) then Some (run_around n i ws) else block_over g (segments_in n ws))
+  pub over_around : (g : ℕ) → block_over g (map_of c (others xs i)) ≡ (if has_granule g (run_around xs i) then Some (run_around xs i) else block_over g xs)
   over_around g =
       let a : Around = around in
-      let run : Segment = run_around n i ws in
+      let run : Segment = run_around xs i in
       let old : List Segment = a.left ++ (row ∷ a.right) in
       split (has_granule g run)
       (λ q. rw q (ap (block_over g) a.map ∙ over_parted c a.before a.after run g (subst (λ r. is_map c r ≡ true) a.map map_others) q))
@@ -226,13 +224,13 @@ module _ (c : Config) (n i : ℕ) (ws : List ℕ) (h : i < n) (m : is_map c (seg
       ∙ sym (ap (block_over g) a.rows ∙ first_skip (has_granule g) a.before old a.after gone)))
 
   -- At the row's start there is room for g granules beside the other blocks exactly if they end no later than the free run.
-  stays_around : (g : ℕ) → room c (others n i ws) g row.start ≡ leb (row.start + g) to
+  stays_around : (g : ℕ) → room c (others xs i) g row.start ≡ leb (row.start + g) to
   stays_around g =
       let a : Around = around in
-      let bounds = around_bounds c n i ws h m in
+      let bounds = around_bounds c xs i h m in
       let clear : Segment → Bool = clear_of row.start g in
-      let e : others n i ws ≡ filter is_live a.before ++ filter is_live a.after =
-      sym (live_map c 0 (others n i ws) ordered) ∙ ap (filter is_live) a.map ∙ only_append is_live a.before (run_around n i ws ∷ a.after) in
+      let e : others xs i ≡ filter is_live a.before ++ filter is_live a.after =
+      sym (live_map c 0 (others xs i) ordered) ∙ ap (filter is_live) a.map ∙ only_append is_live a.before (run_around xs i ∷ a.after) in
       rw e
       (same_test (leb (row.start + g) c.granules && list_all clear (filter is_live a.before ++ filter is_live a.after)) (leb (row.start + g) to)
       (λ p. let inside : leb (row.start + g) c.granules ≡ true = search parts in
@@ -245,45 +243,45 @@ module _ (c : Config) (n i : ℕ) (ws : List ℕ) (h : i < n) (m : is_map c (seg
       (every_only clear is_live a.after (every_weaker (starts_from to) clear (λ y k. before_clear row.start g y (omega tests)) a.after (tiles_from to to c.granules a.after (omega arith) a.back))))))
 
   -- So it starts where it does, or where first fit finds it.
-  pub refit_stays : (g : ℕ) → row.start + g ≤ to → Some row.start ≡ refit_start c n i g ws
+  pub refit_stays : (g : ℕ) → row.start + g ≤ to → Some row.start ≡ refit_start c xs i g
   refit_stays g k = rw (stays_around g ∙ le-leb (row.start + g) to k)
 
   -- What first fit finds on 16 bytes, for a base with the same remainder by 16, is where the block goes.
-  pub refit_goes : (g : ℕ) → to < row.start + g → (f : Option Place) (b : ℕ) → c.base % 16 ≡ b % 16 → Found (at_base b c) n g 16 ws f → option_map (λ p. p.start) f ≡ refit_start c n i g ws
-  refit_goes g k f b e w = rw (stays_around g ∙ lt-leb (row.start + g) to k) (sym w.lowest ∙ sym (lowest_alike c b 16 e (blocks_in n ws) g))
+  pub refit_goes : (g : ℕ) → to < row.start + g → (f : Option Place) (b : ℕ) → c.base % 16 ≡ b % 16 → Found (at_base b c) xs g 16 f → option_map (λ p. p.start) f ≡ refit_start c xs i g
+  refit_goes g k f b e w = rw (stays_around g ∙ lt-leb (row.start + g) to k) (sym w.lowest ∙ sym (lowest_alike c b 16 e (filter is_live xs) g))
 
   -- Without that row there are fewer rows, by one less than the free run is cut into for it.
-  pub around_count : rows_of c (others n i ws) + length (cut (run_around n i ws) row) ≡ n + 1
+  pub around_count : rows_of c (others xs i) + length (cut (run_around xs i) row) ≡ length xs + 1
   around_count =
       let a : Around = around in
-      let bounds = around_bounds c n i ws h m in
+      let bounds = around_bounds c xs i h m in
       let z : from + (to - from) ≡ to = omega arith in
       omega (
         arith,
-        ap length a.map ∙ length-append a.before (run_around n i ws ∷ a.after),
-        sym (length_segments n ws) ∙ ap length a.rows ∙ length-append a.before ((a.left ++ (row ∷ a.right)) ++ a.after),
+        ap length a.map ∙ length-append a.before (run_around xs i ∷ a.after),
+        ap length a.rows ∙ length-append a.before ((a.left ++ (row ∷ a.right)) ++ a.after),
         length-append (a.left ++ (row ∷ a.right)) a.after,
         length-append a.left (row ∷ a.right),
-        cut_length (run_around n i ws) row,
+        cut_length (run_around xs i) row,
         gap_count from row.start a.left a.filled_left a.left_one,
         ap (λ (k : ℕ). length (gap (row.start + row.length) k)) z,
         gap_count (row.start + row.length) to a.right a.filled_right a.right_one,
       )
 
   -- The free run is cut into no more rows than there are.
-  pub around_few : length (cut (run_around n i ws) row) ≤ n
+  pub around_few : length (cut (run_around xs i) row) ≤ length xs
   around_few =
       let a : Around = around in
-      omega (arith, around_count, ap length a.map ∙ length-append a.before (run_around n i ws ∷ a.after))
+      omega (arith, around_count, ap length a.map ∙ length-append a.before (run_around xs i ∷ a.after))
 
-  module _ (b t : Segment) (l : Live c b) (fits : room c (others n i ws) b.length b.start ≡ true)
-      (over : block_over b.start (map_of c (others n i ws)) ≡ Some t) where
-    target : MapWith c (others n i ws) b
-    target = map_with c (others n i ws) b ordered l fits
+  module _ (b t : Segment) (l : Live c b) (fits : room c (others xs i) b.length b.start ≡ true)
+      (over : block_over b.start (map_of c (others xs i)) ≡ Some t) where
+    target : MapWith c (others xs i) b
+    target = map_with c (others xs i) b ordered l fits
 
     target_is : target.row ≡ t
     target_is =
-        let w : MapWith c (others n i ws) b = target in
+        let w : MapWith c (others xs i) b = target in
         let e : Some w.row ≡ Some t =
         sym (ap (block_over b.start) w.map
         ∙ over_parted c w.before w.after w.row b.start (subst (λ r. is_map c r ≡ true) w.map map_others)
@@ -297,12 +295,12 @@ module _ (c : Config) (n i : ℕ) (ws : List ℕ) (h : i < n) (m : is_map c (seg
     -- A block with room beside the others lies in the row over its start, and that row in the arena.
     pub target_bounds : (t.start ≤ b.start) × (b.start + b.length ≤ t.start + t.length) × (t.start + t.length ≤ c.granules)
     target_bounds =
-        let w : MapWith c (others n i ws) b = target in
+        let w : MapWith c (others xs i) b = target in
         let r : Row c w.before w.row w.after = row_of c w.before w.row w.after (subst (λ r. is_map c r ≡ true) w.map map_others) in
         subst (λ (k : Segment). (k.start ≤ b.start) × (b.start + b.length ≤ k.start + k.length) × (k.start + k.length ≤ c.granules)) target_is
         (w.low, w.high, omega (arith, r.end, tiles_le r.place.to c.granules w.after r.place.back))
 
     -- The rows with that block in place of the old: as many fewer as the free run is cut into for the old, and as many more as that row is for the new.
-    pub exchanged_count : rows_of c (insert b (others n i ws)) + length (cut (run_around n i ws) row) ≡ n + length (cut t b)
+    pub exchanged_count : rows_of c (insert b (others xs i)) + length (cut (run_around xs i) row) ≡ length xs + length (cut t b)
     exchanged_count =
-        omega (arith, around_count, map_with_count c (others n i ws) b target, ap (λ (k : Segment). length (cut k b)) target_is)
+        omega (arith, around_count, map_with_count c (others xs i) b target, ap (λ (k : Segment). length (cut k b)) target_is)

@@ -1,6 +1,6 @@
 -- What a caller makes of what it found in the rows: the block over a granule, and the map with a block placed where first fit said.
 -- Assumes nothing.
-use Rattle.std.proofs.Common.{◌≡◌, ℕ, ◌+◌, ◌-◌, ◌<◌, ◌≤◌, Bool, true, not, List, ◌∷◌, ◌++◌, length, take, ap, ◌∙◌, subst, arith}
+use Rattle.std.proofs.Common.{◌≡◌, ℕ, ◌+◌, ◌-◌, ◌<◌, ◌≤◌, Bool, true, not, List, ◌∷◌, ◌++◌, length, take, drop, ap, ◌∙◌, subst, arith}
 use Rattle.std.specs.Prelude.{None, Some, if◌then◌else◌, filter}
 use Rattle.std.specs.List.{list_all}
 use Rattle.model.specs.Quantities.{Config}
@@ -9,11 +9,11 @@ use Rattle.model.specs.SegmentMap.{is_live, map_of, rows_of}
 use Rattle.model.proofs.Choosing.{split, tests, parts, every_only, every_weaker, only_append, first_back, first_none}
 use Rattle.model.proofs.Ordered.{Live}
 use Rattle.model.proofs.Offsets.{granule_in, in_granule, granule_before, granule_after}
-use Rattle.segments.specs.Rows.{segment_at, segments_in, blocks_in}
+use Rattle.segments.specs.Rows.{nth_row}
 use Rattle.segments.specs.Tiling.{tiles, is_map, IsMapWithin}
 use Rattle.segments.specs.Search.{RowOf, Found}
 use Rattle.segments.specs.Changes.{replaced, cut}
-use Rattle.segments.proofs.Reading.{rest, row_parted, row_end, ends_by, tiles_end}
+use Rattle.segments.proofs.Reading.{row_parted, row_end, ends_by, tiles_end}
 use Rattle.segments.proofs.Parted.{Parted, part, starts_from, tiles_from}
 use Rattle.segments.proofs.TilesMap.{First, first}
 use Rattle.segments.proofs.Splitting.{split_rows, split_count}
@@ -32,16 +32,15 @@ pub lacks_before : (s e i : ℕ) (xs : List Segment) → tiles s e xs ≡ true �
 lacks_before s e i xs t h = every_weaker (starts_from s) (lacks i) (λ y k. rw (granule_before i y (omega tests))) xs (tiles_from s s e xs (omega arith) t)
 
 -- The block over granule i of the arena is the row of that granule if that is live, and else there is none.
-pub over_row : (c : Config) (n : ℕ) (ws : List ℕ) (i row : ℕ) → is_map c (segments_in n ws) ≡ true → i < c.granules → RowOf n i ws row
-    → block_over i (blocks_in n ws) ≡ (if is_live (segment_at ws row) then Some (segment_at ws row) else None)
-over_row c n ws i row m h r =
-    let xs : List Segment = segments_in n ws in
+pub over_row : (c : Config) (xs : List Segment) (i row : ℕ) → is_map c xs ≡ true → i < c.granules → RowOf xs i row
+    → block_over i (filter is_live xs) ≡ (if is_live (nth_row xs row) then Some (nth_row xs row) else None)
+over_row c xs i row m h r =
     let ys : List Segment = take row xs in
-    let s : Segment = segment_at ws row in
-    let zs : List Segment = rest n (row + 1) ws in
+    let s : Segment = nth_row xs row in
+    let zs : List Segment = drop (row + 1) xs in
     let t : tiles 0 c.granules xs ≡ true = search parts in
     let g : (s.start ≤ i) × (i < s.start + s.length) = granule_in i s (r.has c.granules t h) in
-    let e : xs ≡ ys ++ (s ∷ zs) = row_parted n ws row r.in_use in
+    let e : xs ≡ ys ++ (s ∷ zs) = row_parted xs row r.in_use in
     let p : Parted 0 c.granules ys (s ∷ zs) = part 0 c.granules ys (s ∷ zs) (subst (λ (k : List Segment). tiles 0 c.granules k ≡ true) e t) in
     let f : First p.at c.granules s zs = first p.at c.granules s zs p.back in
     let before : list_all (lacks i) (filter is_live ys) ≡ true =
@@ -56,21 +55,21 @@ over_row c n ws i row m h r =
     (λ q. rw q (first_none (has_granule i) (filter is_live zs) after)))
 
 -- The place that first fit found, cut for a block: the map with that block.
-pub found_cut : (c : Config) (n g a : ℕ) (ws : List ℕ) (p : Place) (b : Segment) → is_map c (segments_in n ws) ≡ true → Found c n g a ws (Some p)
-    → Live c b → b.start ≡ p.start → b.length ≡ g → replaced p.row 1 (cut (segment_at ws p.row) b) (segments_in n ws) ≡ map_of c (insert b (blocks_in n ws))
-found_cut c n g a ws p b m f l s q =
-    split_rows c n ws p.row b f.room.in_use m f.room.free l (omega (arith, f.room.from)) (omega (arith, f.room.up_to))
+pub found_cut : (c : Config) (xs : List Segment) (g a : ℕ) (p : Place) (b : Segment) → is_map c xs ≡ true → Found c xs g a (Some p)
+    → Live c b → b.start ≡ p.start → b.length ≡ g → replaced p.row 1 (cut (nth_row xs p.row) b) xs ≡ map_of c (insert b (filter is_live xs))
+found_cut c xs g a p b m f l s q =
+    split_rows c xs p.row b f.room.in_use m f.room.free l (omega (arith, f.room.from)) (omega (arith, f.room.up_to))
 
 -- The rows are then those before, less the one cut, and those that it is cut into.
-pub found_count : (c : Config) (n g a : ℕ) (ws : List ℕ) (p : Place) (b : Segment) → is_map c (segments_in n ws) ≡ true → Found c n g a ws (Some p)
-    → Live c b → b.start ≡ p.start → b.length ≡ g → rows_of c (insert b (blocks_in n ws)) ≡ n - 1 + length (cut (segment_at ws p.row) b)
-found_count c n g a ws p b m f l s q =
-    split_count c n ws p.row b f.room.in_use m f.room.free l (omega (arith, f.room.from)) (omega (arith, f.room.up_to))
+pub found_count : (c : Config) (xs : List Segment) (g a : ℕ) (p : Place) (b : Segment) → is_map c xs ≡ true → Found c xs g a (Some p)
+    → Live c b → b.start ≡ p.start → b.length ≡ g → rows_of c (insert b (filter is_live xs)) ≡ length xs - 1 + length (cut (nth_row xs p.row) b)
+found_count c xs g a p b m f l s q =
+    split_count c xs p.row b f.room.in_use m f.room.free l (omega (arith, f.room.from)) (omega (arith, f.room.up_to))
 
 -- No row of a map ends after the arena.
-pub row_inside : (c : Config) (n : ℕ) (ws : List ℕ) (i : ℕ) → is_map c (segments_in n ws) ≡ true → i < n → (segment_at ws i).start + (segment_at ws i).length ≤ c.granules
-row_inside c n ws i m h = row_end n c.granules ws i (search parts) h
+pub row_inside : (c : Config) (xs : List Segment) (i : ℕ) → is_map c xs ≡ true → i < length xs → (nth_row xs i).start + (nth_row xs i).length ≤ c.granules
+row_inside c xs i m h = row_end c.granules xs i (search parts) h
 
 -- So none ends after the granules that an arena of which the rows are a map has at most.
-pub row_within : (most n : ℕ) (ws : List ℕ) (i : ℕ) (x : Segment) → IsMapWithin most (segments_in n ws) → i < n → x ≡ segment_at ws i → x.start + x.length ≤ most
-row_within most n ws i x m h e = rw e (omega (arith, m.small, row_inside m.arena n ws i m.map h))
+pub row_within : (most : ℕ) (xs : List Segment) (i : ℕ) (x : Segment) → IsMapWithin most xs → i < length xs → x ≡ nth_row xs i → x.start + x.length ≤ most
+row_within most xs i x m h e = rw e (omega (arith, m.small, row_inside m.arena xs i m.map h))

@@ -10,7 +10,7 @@ use Rattle.model.specs.Allocation.{offset, block_at, without}
 use Rattle.model.specs.SegmentMap.{is_free, is_live, free_run, gap, map_from, map_of, rows_of}
 use Rattle.model.proofs.Choosing.{split, tests, only_append, every_only, every_weaker, only_all, only_none}
 use Rattle.model.proofs.Ordered.{Live, Ordered}
-use Rattle.segments.specs.Rows.{segment_at, segments_in, blocks_in}
+use Rattle.segments.specs.Rows.{nth_row}
 use Rattle.segments.specs.Tiling.{tiles, is_map}
 use Rattle.segments.specs.Changes.{join_first, joined, free_first, freed, released}
 use Rattle.segments.proofs.MapTiles.{owner_not_0, run_tiles, live_map, is_map_lem}
@@ -231,16 +231,15 @@ module _ (c : Config) (ys zs : List Segment) (x : Segment) (m : is_map c (ys ++ 
       ∙ refilled c g.before (g.left ++ (x ∷ g.right)) g.after v (free_run v.from (v.to - v.from) ∷ []) (run_tiles v.from v.to s) refl refl g.before_live g.after_live
       ∙ sym g.one
 
--- Row i of a table, live and given back, leaves the map of the blocks without that one.
-pub release_rows : (c : Config) (n : ℕ) (ws : List ℕ) (i : ℕ) → i < n → is_map c (segments_in n ws) ≡ true → is_live (segment_at ws i) ≡ true
-    → released i (segments_in n ws) ≡ map_of c (without (offset (segment_at ws i)) (blocks_in n ws))
-release_rows c n ws i h m live =
-    let xs : List Segment = segments_in n ws in
-    let x : Segment = segment_at ws i in
-    let e : xs ≡ take i xs ++ (x ∷ drop (i + 1) xs) = row_parted n ws i h in
+-- Row i of a map, live and given back, leaves the map of the blocks without that one.
+pub release_rows : (c : Config) (xs : List Segment) (i : ℕ) → i < length xs → is_map c xs ≡ true → is_live (nth_row xs i) ≡ true
+    → released i xs ≡ map_of c (without (offset (nth_row xs i)) (filter is_live xs))
+release_rows c xs i h m live =
+    let x : Segment = nth_row xs i in
+    let e : xs ≡ take i xs ++ (x ∷ drop (i + 1) xs) = row_parted xs i h in
     sym (ap (λ r. map_of c (without (offset x) (filter is_live r))) e
     ∙ release_map c (take i xs) (drop (i + 1) xs) x (subst (λ r. is_map c r ≡ true) e m) live
-    ∙ (λ j. released (rows_before n ws i h j) (sym e j)))
+    ∙ (λ j. released (rows_before xs i h j) (sym e j)))
 
 -- the row of a map that is the block at a byte
 record Standing (c : Config) (s x : ℕ) (bs : List Segment) (b : Segment) : Type 0 where

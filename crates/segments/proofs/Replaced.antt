@@ -8,7 +8,7 @@ use Rattle.model.specs.Allocation.{insert, has_granule, block_over}
 use Rattle.model.specs.SegmentMap.{is_free, is_live, map_of, rows_of}
 use Rattle.model.proofs.Choosing.{split, tests, both_left}
 use Rattle.model.proofs.Ordered.{Live, long}
-use Rattle.segments.specs.Rows.{segment_at, segments_in, blocks_in, Rewritten}
+use Rattle.segments.specs.Rows.{nth_row, segments_in, Rewritten}
 use Rattle.segments.specs.Tiling.{tiles, is_map}
 use Rattle.segments.specs.Search.{RowOf, others}
 use Rattle.segments.specs.Changes.{replaced, cut, released, Replaceable}
@@ -23,9 +23,9 @@ use Rattle.segments.proofs.Releasing.{release_rows}
 use Rattle.segments.proofs.Around.{around_bounds, ordered, map_others, over_around, segment_over, around_count, around_few, target_free, target_bounds, exchanged_count}
 use Rattle.model.specs.declared.Segment.{Segment}
 
-module _ {c : Config} {n i : ℕ} {b : Segment} {ws : List ℕ} (r : Replaceable c n i b ws) where
+module _ {c : Config} {xs : List Segment} {i : ℕ} {b : Segment} (r : Replaceable c xs i b) where
   abbrev blocks : List Segment
-  blocks = others n i ws
+  blocks = others xs i
 
   live_block : Live c b
   live_block = formed_live c b (not-true (is_free b) r.live) r.formed
@@ -37,96 +37,97 @@ module _ {c : Config} {n i : ℕ} {b : Segment} {ws : List ℕ} (r : Replaceable
   -- A row of the map without the old block that is over the new one's start.
   module _ {t : Segment} (over : block_over b.start (map_of c blocks) ≡ Some t) where
     bounds : (t.start ≤ b.start) × (b.start + b.length ≤ t.start + t.length) × (t.start + t.length ≤ c.granules)
-    bounds = target_bounds c n i ws r.in_use r.map r.old b t live_block r.fits over
+    bounds = target_bounds c xs i r.in_use r.map r.old b t live_block r.fits over
 
   -- The old block and the free run around it, as they are read.
-  module _ {old run : Segment} (old_is : old ≡ segment_at ws i) (run_is : run ≡ run_around n i ws) where
-    cut_is : length (cut run old) ≡ length (cut (run_around n i ws) (segment_at ws i))
+  module _ {old run : Segment} (old_is : old ≡ nth_row xs i) (run_is : run ≡ run_around xs i) where
+    cut_is : length (cut run old) ≡ length (cut (run_around xs i) (nth_row xs i))
     cut_is j = length (cut (run_is j) (old_is j))
 
     -- The run ends in the arena, and the block in it,
     pub read_inside : (old.start + old.length ≤ c.granules) × (run.start + run.length ≤ c.granules)
     read_inside =
-        let a = around_bounds c n i ws r.in_use r.map in
+        let a = around_bounds c xs i r.in_use r.map in
         let o = ap (λ (x : Segment). x.start + x.length) old_is in
         let e = ap (λ (x : Segment). x.start + x.length) run_is in
         (omega arith, omega arith)
 
     -- and it is cut into no more rows than there are.
-    pub cut_few : length (cut run old) ≤ n
-    cut_few = omega (arith, cut_is, around_few c n i ws r.in_use r.map r.old)
+    pub cut_few : length (cut run old) ≤ length xs
+    cut_few = omega (arith, cut_is, around_few c xs i r.in_use r.map r.old)
 
     -- The new block begins in the run, or else in the row in which it begins now.
-    module _ {at : ℕ} (w : RowOf n b.start ws at) {before t : Segment} (before_is : before ≡ segment_at ws at) (is : t ≡ (if has_granule b.start run then run else before)) where
+    module _ {at : ℕ} (w : RowOf xs b.start at) {before t : Segment} (before_is : before ≡ nth_row xs at) (is : t ≡ (if has_granule b.start run then run else before)) where
       over : block_over b.start (map_of c blocks) ≡ Some t
       over =
-          let m : tiles 0 c.granules (segments_in n ws) ≡ true = both_left _ _ (both_left _ _ r.map) in
-          let g : has_granule b.start (segment_at ws at) ≡ true = w.has c.granules m (omega (arith, inside, long c b live_block)) in
-          let e : t ≡ (if has_granule b.start (run_around n i ws) then run_around n i ws else segment_at ws at) =
+          let m : tiles 0 c.granules xs ≡ true = both_left _ _ (both_left _ _ r.map) in
+          let g : has_granule b.start (nth_row xs at) ≡ true = w.has c.granules m (omega (arith, inside, long c b live_block)) in
+          let e : t ≡ (if has_granule b.start (run_around xs i) then run_around xs i else nth_row xs at) =
           is ∙ (λ j. if has_granule b.start (run_is j) then run_is j else before_is j) in
-          over_around c n i ws r.in_use r.map r.old b.start
-          ∙ split (has_granule b.start (run_around n i ws))
+          over_around c xs i r.in_use r.map r.old b.start
+          ∙ split (has_granule b.start (run_around xs i))
           (λ q. rw q (ap Some (sym (e ∙ rw q))))
-          (λ q. rw q (segment_over c n ws b.start at r.map w.in_use g ∙ ap Some (sym (e ∙ rw q))))
+          (λ q. rw q (segment_over c xs b.start at r.map w.in_use g ∙ ap Some (sym (e ∙ rw q))))
 
       -- That row ends in the arena, and the rows with the block follow from it.
       pub target_inside : t.start + t.length ≤ c.granules
       target_inside = (bounds over).2
 
-      pub rows_counted : rows_of c (insert b blocks) + length (cut run old) ≡ n + length (cut t b)
-      rows_counted = omega (arith, cut_is, exchanged_count c n i ws r.in_use r.map r.old b t live_block r.fits over)
+      pub rows_counted : rows_of c (insert b blocks) + length (cut run old) ≡ length xs + length (cut t b)
+      rows_counted = omega (arith, cut_is, exchanged_count c xs i r.in_use r.map r.old b t live_block r.fits over)
 
-  -- row i given back, and the row over the block's start cut for it
+-- Row i given back, and the row over the block's start cut for it.
+module _ {c : Config} {n i : ℕ} {b : Segment} {ws : List ℕ} (r : Replaceable c (segments_in n ws) i b) where
   module _ {m : ℕ} {part : List ℕ} (q : Rewritten n ws (released i (segments_in n ws)) m part) where
-    freed_is : segments_in m part ≡ map_of c blocks
-    freed_is = rows_read q ∙ release_rows c n ws i r.in_use r.map r.old
+    freed_is : segments_in m part ≡ map_of c (blocks r)
+    freed_is = rows_read q ∙ release_rows c (segments_in n ws) i r.in_use r.map r.old
 
     freed_map : is_map c (segments_in m part) ≡ true
-    freed_map = rw freed_is (map_others c n i ws r.in_use r.map r.old)
+    freed_map = rw freed_is (map_others c (segments_in n ws) i r.in_use r.map r.old)
 
-    freed_count : m ≡ rows_of c blocks
+    freed_count : m ≡ rows_of c (blocks r)
     freed_count = sym (length_segments m part) ∙ ap length freed_is
 
-    freed_blocks : blocks_in m part ≡ blocks
-    freed_blocks = ap (filter is_live) freed_is ∙ live_map c 0 blocks (ordered c n i ws r.in_use r.map r.old)
+    freed_blocks : filter is_live (segments_in m part) ≡ blocks r
+    freed_blocks = ap (filter is_live) freed_is ∙ live_map c 0 (blocks r) (ordered c (segments_in n ws) i r.in_use r.map r.old)
 
     -- The rows left are some, and no more than before.
     pub freed_some : (1 ≤ m) × (m ≤ n)
     freed_some =
-        let count = around_count c n i ws r.in_use r.map r.old in
-        let few = around_few c n i ws r.in_use r.map r.old in
-        let least = cut_length (run_around n i ws) (segment_at ws i) in
-        (omega (arith, freed_count), omega (arith, freed_count))
+        let count = around_count c (segments_in n ws) i r.in_use r.map r.old in
+        let few = around_few c (segments_in n ws) i r.in_use r.map r.old in
+        let least = cut_length (run_around (segments_in n ws) i) (nth_row (segments_in n ws) i) in
+        (omega (arith, freed_count, length_segments n ws), omega (arith, freed_count, length_segments n ws))
 
-    module _ {at : ℕ} (a : RowOf m b.start part at) where
+    module _ {at : ℕ} (a : RowOf (segments_in m part) b.start at) where
       abbrev target_row : Segment
-      target_row = segment_at part at
+      target_row = nth_row (segments_in m part) at
 
-      over_target : block_over b.start (map_of c blocks) ≡ Some target_row
+      over_target : block_over b.start (map_of c (blocks r)) ≡ Some target_row
       over_target =
           let t : tiles 0 c.granules (segments_in m part) ≡ true = both_left _ _ (both_left _ _ freed_map) in
           ap (block_over b.start) (sym freed_is)
-          ∙ segment_over c m part b.start at freed_map a.in_use (a.has c.granules t (omega (arith, inside, long c b live_block)))
+          ∙ segment_over c (segments_in m part) b.start at freed_map a.in_use (a.has c.granules t (omega (arith, inside r, long c b (live_block r))))
 
       within : (target_row.start ≤ b.start) × (b.start + b.length ≤ target_row.start + target_row.length) × (target_row.start + target_row.length ≤ c.granules)
-      within = bounds over_target
+      within = bounds r over_target
 
       free : target_row.owner ≡ 0
-      free = eqb-true _ 0 (target_free c n i ws r.in_use r.map r.old b target_row live_block r.fits over_target)
+      free = eqb-true _ 0 (target_free c (segments_in n ws) i r.in_use r.map r.old b target_row (live_block r) r.fits over_target)
 
       -- That row may be cut for the block: nothing wraps, and the table has the rows.
-      pub may_cut : 4 * rows_of c (insert b blocks) ≤ length ws → (b.start + b.length ≤ 4294967295)
+      pub may_cut : 4 * rows_of c (insert b (blocks r)) ≤ length ws → (b.start + b.length ≤ 4294967295)
           × (target_row.start + target_row.length ≤ 4294967295)
           × (4 * (m - 1 + length (cut target_row b)) ≤ length ws)
       may_cut h =
-          let count = split_count c m part at b a.in_use freed_map free live_block within.0 within.1 in
+          let count = split_count c (segments_in m part) at b a.in_use freed_map free (live_block r) within.0 within.1 in
           let same = ap (λ (k : List Segment). rows_of c (insert b k)) freed_blocks in
-          (omega (arith, inside, r.small), omega (arith, within, r.small), omega arith)
+          (omega (arith, inside r, r.small), omega (arith, within, r.small), omega (arith, length_segments m part))
 
       -- The rows are then the map with the block.
       pub replaced_rows : {k : ℕ} {after : List ℕ} → Rewritten m part (replaced at 1 (cut target_row b) (segments_in m part)) k after
-          → Rewritten n ws (map_of c (insert b blocks)) k after
+          → Rewritten n ws (map_of c (insert b (blocks r))) k after
       replaced_rows {k} {after} w =
-          let e : replaced at 1 (cut target_row b) (segments_in m part) ≡ map_of c (insert b blocks) =
-          split_rows c m part at b a.in_use freed_map free live_block within.0 within.1 ∙ ap (λ (bs : List Segment). map_of c (insert b bs)) freed_blocks in
-          change (λ (xs : List Segment). map_of c (insert b blocks)) q (subst (λ (xs : List Segment). Rewritten m part xs k after) e w) (omega (arith, freed_some, q.rows))
+          let e : replaced at 1 (cut target_row b) (segments_in m part) ≡ map_of c (insert b (blocks r)) =
+          split_rows c (segments_in m part) at b a.in_use freed_map free (live_block r) within.0 within.1 ∙ ap (λ (bs : List Segment). map_of c (insert b bs)) freed_blocks in
+          change (λ (xs : List Segment). map_of c (insert b (blocks r))) q (subst (λ (xs : List Segment). Rewritten m part xs k after) e w) (omega (arith, freed_some, q.rows))

@@ -1,7 +1,7 @@
 -- The rows in use changed in steps, one function after another: a gap inserted, a row cut, two rows joined, a row released.
 -- Assumes nothing.
 use Rattle.std.proofs.Common.{◌≡◌, ℕ, ◌+◌, ◌-◌, ◌*◌, ◌<◌, ◌≤◌, max, true, false, List, [], ◌∷◌, ◌++◌, length, take, drop, replicate, sym, ap, ◌∙◌, subst, arith, take-append-drop, drop_of_length-le, le-ltb, lt-ltb}
-use Rattle.segments.specs.Rows.{table_of, segment_at, segments_in, with_row, with_rows, Rewritten}
+use Rattle.segments.specs.Rows.{table_of, nth_row, segments_in, with_row, with_rows, Rewritten}
 use Rattle.model.specs.Allocation.{granules_of}
 use Rattle.model.specs.SegmentMap.{is_free, free_run, gap}
 use Rattle.segments.specs.Changes.{replaced, inserted, removed, cut, join_first, joined, free_first, freed, released}
@@ -56,6 +56,9 @@ module _ (n : ℕ) (ws : List ℕ) (fits : 4 * n ≤ length ws) (i : ℕ) (h : i
   abbrev here : List Segment
   here = segments_in n ws
 
+  in_use : i < length here
+  in_use = omega (arith, length_segments n ws)
+
   -- One row set, as a change of the rows in use.
   pub set_rows : (x : Segment) (after : List ℕ) → after ≡ with_row ws i x → Rewritten n ws (replaced i 1 (x ∷ []) here) n after
   set_rows x after e =
@@ -74,55 +77,61 @@ module _ (n : ℕ) (ws : List ℕ) (fits : 4 * n ≤ length ws) (i : ℕ) (h : i
       let r2 : Rewritten n ws ys m two = change (replaced (i + 1) 0 last) (set_rows b one e) r (omega arith) in
       let r3 : Rewritten n ws (replaced i 0 first ys) k three = change (replaced i 0 first) r2 q (omega arith) in
       let z : replaced i 0 first ys ≡ replaced i 1 (first ++ (b ∷ last)) here =
-      ap (λ (t : List Segment). replaced i 0 first (replaced (i + 1) 0 last (replaced i 1 (b ∷ []) t))) (row_parted n ws i h)
-      ∙ cut_steps (take i here) (drop (i + 1) here) (segment_at ws i) b first last i (rows_before n ws i h)
-      ∙ ap (replaced i 1 (first ++ (b ∷ last))) (sym (row_parted n ws i h)) in
+      ap (λ (t : List Segment). replaced i 0 first (replaced (i + 1) 0 last (replaced i 1 (b ∷ []) t))) (row_parted here i in_use)
+      ∙ cut_steps (take i here) (drop (i + 1) here) (nth_row here i) b first last i (rows_before here i in_use)
+      ∙ ap (replaced i 1 (first ++ (b ∷ last))) (sym (row_parted here i in_use)) in
       subst (λ (t : List Segment). Rewritten n ws t k three) z r3
 
   -- A row cut for a block, in three steps.
-  pub cut_rows : (s b : Segment) (m k : ℕ) (one two three : List ℕ) → s ≡ segment_at ws i → one ≡ with_row ws i b
+  pub cut_rows : (s b : Segment) (m k : ℕ) (one two three : List ℕ) → s ≡ nth_row here i → one ≡ with_row ws i b
       → Rewritten n one (replaced (i + 1) 0 (gap (b.start + b.length) (s.start + s.length)) (segments_in n one)) m two
       → Rewritten m two (replaced i 0 (gap s.start b.start) (segments_in m two)) k three
-      → Rewritten n ws (replaced i 1 (cut (segment_at ws i) b) here) k three
+      → Rewritten n ws (replaced i 1 (cut (nth_row here i) b) here) k three
   cut_rows s b m k one two three z e r q =
       subst (λ (x : Segment). Rewritten n ws (replaced i 1 (cut x b) here) k three) z (three_rows b (gap s.start b.start) (gap (b.start + b.length) (s.start + s.length)) m k one two three e r q)
 
   -- Row i freed.
-  pub freed_is : replaced i 1 (free_run (segment_at ws i).start (segment_at ws i).length ∷ []) here ≡ freed i here
-  freed_is = sym (ap (λ (q : List Segment). take i here ++ free_first q) (rest_row n i ws h))
+  pub freed_is : replaced i 1 (free_run (nth_row here i).start (nth_row here i).length ∷ []) here ≡ freed i here
+  freed_is = sym (ap (λ (q : List Segment). take i here ++ free_first q) (rest_row here i in_use))
 
   -- Rows i and i + 1 where they are not both free.
-  pub joined_same : join_first (segment_at ws i ∷ drop (i + 1) here) ≡ segment_at ws i ∷ drop (i + 1) here → Rewritten n ws (joined i here) n ws
+  pub joined_same : join_first (nth_row here i ∷ drop (i + 1) here) ≡ nth_row here i ∷ drop (i + 1) here → Rewritten n ws (joined i here) n ws
   joined_same e =
-      let z : here ≡ joined i here = row_parted n ws i h ∙ ap (λ (q : List Segment). take i here ++ q) (sym e ∙ ap join_first (sym (rest_row n i ws h))) in
+      let z : here ≡ joined i here = row_parted here i in_use ∙ ap (λ (q : List Segment). take i here ++ q) (sym e ∙ ap join_first (sym (rest_row here i in_use))) in
       record { rows = sym (ap length (sym z) ∙ length_segments n ws); words = sym (rows_same n ws fits i) ∙ ap (with_rows n ws) z }
 
   pub joined_end : n ≤ i + 1 → Rewritten n ws (joined i here) n ws
   joined_end k = joined_same (rw (drop_of_length-le here {i = i + 1} (omega (arith, length_segments n ws))))
 
-  pub joined_live : is_free (segment_at ws i) ≡ false → Rewritten n ws (joined i here) n ws
-  joined_live q = joined_same (first_live (segment_at ws i) (drop (i + 1) here) q)
+  pub joined_live : is_free (nth_row here i) ≡ false → Rewritten n ws (joined i here) n ws
+  joined_live q = joined_same (first_live (nth_row here i) (drop (i + 1) here) q)
 
 module _ (n : ℕ) (ws : List ℕ) (fits : 4 * n ≤ length ws) (i : ℕ) (h : i + 1 < n) where
   abbrev these : List Segment
   these = segments_in n ws
 
-  two_first : drop i these ≡ segment_at ws i ∷ segment_at ws (i + 1) ∷ drop (i + 1 + 1) these
-  two_first = rest_row n i ws (omega arith) ∙ ap (λ (q : List Segment). segment_at ws i ∷ q) (rest_row n (i + 1) ws h)
+  in_first : i < length these
+  in_first = omega (arith, length_segments n ws)
+
+  in_second : i + 1 < length these
+  in_second = omega (arith, length_segments n ws)
+
+  two_first : drop i these ≡ nth_row these i ∷ nth_row these (i + 1) ∷ drop (i + 1 + 1) these
+  two_first = rest_row these i in_first ∙ ap (λ (q : List Segment). nth_row these i ∷ q) (rest_row these (i + 1) in_second)
 
   -- the sum of two rows' lengths is among that of all
-  pub two_granules : (segment_at ws i).length + (segment_at ws (i + 1)).length ≤ granules_of these
+  pub two_granules : (nth_row these i).length + (nth_row these (i + 1)).length ≤ granules_of these
   two_granules =
       omega (arith, granules_append (take i these) (drop i these), ap granules_of (take-append-drop i these), ap granules_of two_first)
 
-  pub joined_apart : is_free (segment_at ws (i + 1)) ≡ false → Rewritten n ws (joined i these) n ws
+  pub joined_apart : is_free (nth_row these (i + 1)) ≡ false → Rewritten n ws (joined i these) n ws
   joined_apart q =
       joined_same n ws fits i (omega arith)
-      (rw (rest_row n (i + 1) ws h) (second_live (segment_at ws i) (segment_at ws (i + 1)) (drop (i + 1 + 1) these) q))
+      (rw (rest_row these (i + 1) in_second) (second_live (nth_row these i) (nth_row these (i + 1)) (drop (i + 1 + 1) these) q))
 
   -- both free
-  pub joined_free : (run : Segment) (one two : List ℕ) → is_free (segment_at ws i) ≡ true → is_free (segment_at ws (i + 1)) ≡ true
-      → run ≡ free_run (segment_at ws i).start ((segment_at ws i).length + (segment_at ws (i + 1)).length) → one ≡ with_row ws i run
+  pub joined_free : (run : Segment) (one two : List ℕ) → is_free (nth_row these i) ≡ true → is_free (nth_row these (i + 1)) ≡ true
+      → run ≡ free_run (nth_row these i).start ((nth_row these i).length + (nth_row these (i + 1)).length) → one ≡ with_row ws i run
       → two ≡ with_rows n one (removed (i + 1) (segments_in n one)) → Rewritten n ws (joined i these) (n - 1) two
   joined_free run one two p q r e g =
       let s : Rewritten n ws (replaced i 1 (run ∷ []) these) n one = set_rows n ws fits i (omega arith) run one e in
@@ -133,10 +142,10 @@ module _ (n : ℕ) (ws : List ℕ) (fits : 4 * n ≤ length ws) (i : ℕ) (h : i
       record { rows = sym (ap (λ (q : List Segment). length (removed (i + 1) q)) (rows_read s) ∙ ly ∙ omega arith); words = g } in
       let w : take i these ++ (run ∷ drop (i + 1 + 1) these) ≡ joined i these =
       ap (λ (x : Segment). take i these ++ (x ∷ drop (i + 1 + 1) these)) r
-      ∙ sym (ap (λ (q : List Segment). take i these ++ join_first q) two_first ∙ ap (λ (q : List Segment). take i these ++ q) (both_free (segment_at ws i) (segment_at ws (i + 1)) (drop (i + 1 + 1) these) p q)) in
+      ∙ sym (ap (λ (q : List Segment). take i these ++ join_first q) two_first ∙ ap (λ (q : List Segment). take i these ++ q) (both_free (nth_row these i) (nth_row these (i + 1)) (drop (i + 1 + 1) these) p q)) in
       let z : removed (i + 1) xs ≡ joined i these =
-      ap (λ (q : List Segment). removed (i + 1) (replaced i 1 (run ∷ []) q)) (row_parted n ws i (omega arith) ∙ ap (λ (q : List Segment). take i these ++ (segment_at ws i ∷ q)) (rest_row n (i + 1) ws h))
-      ∙ join_steps (take i these) (drop (i + 1 + 1) these) (segment_at ws i) (segment_at ws (i + 1)) run i (rows_before n ws i (omega arith))
+      ap (λ (q : List Segment). removed (i + 1) (replaced i 1 (run ∷ []) q)) (row_parted these i in_first ∙ ap (λ (q : List Segment). take i these ++ (nth_row these i ∷ q)) (rest_row these (i + 1) in_second))
+      ∙ join_steps (take i these) (drop (i + 1 + 1) these) (nth_row these i) (nth_row these (i + 1)) run i (rows_before these i in_first)
       ∙ w in
       subst (λ (q : List Segment). Rewritten n ws q (n - 1) two) z (change (removed (i + 1)) s t (omega arith))
 
@@ -149,7 +158,7 @@ rewritten_table capacity n m ws after xs h e w =
 
 -- Row i freed, and joined with the rows beside it.
 module _ (n : ℕ) (ws : List ℕ) (fits : 4 * n ≤ length ws) (i : ℕ) (h : i < n) (s run : Segment) (one : List ℕ)
-    (z : s ≡ segment_at ws i) (r : run ≡ free_run s.start s.length) (e : one ≡ with_row ws i run) where
+    (z : s ≡ nth_row (segments_in n ws) i) (r : run ≡ free_run s.start s.length) (e : one ≡ with_row ws i run) where
   abbrev rows : List Segment
   rows = segments_in n ws
 

@@ -1,6 +1,6 @@
 -- First fit over the rows, one after the other, finds the lowest start.
 -- Assumes nothing.
-use Rattle.std.proofs.Common.{◌≡◌, ℕ, ◌+◌, ◌-◌, ◌*◌, ◌/◌, ◌%◌, ◌^◌, ◌<◌, ◌≤◌, Bool, true, false, not, eqb, leb, List, [], ◌∷◌, sym, refl, ap, ◌∙◌, subst, mod-eq_of_lt, arith, eq-eqb, ne_eqb, eqb-true, le-leb}
+use Rattle.std.proofs.Common.{◌≡◌, ℕ, ◌+◌, ◌-◌, ◌*◌, ◌/◌, ◌%◌, ◌^◌, ◌<◌, ◌≤◌, Bool, true, false, not, eqb, leb, List, [], ◌∷◌, length, drop, sym, refl, ap, ◌∙◌, subst, mod-eq_of_lt, arith, eq-eqb, ne_eqb, eqb-true, le-leb}
 use Rattle.std.specs.Prelude.{Option, Some, None, if◌then◌else◌, ◌&&◌, filter}
 use Rattle.std.specs.List.{list_all}
 use Rattle.std.specs.Option.{option_map}
@@ -11,12 +11,12 @@ use Rattle.model.specs.SegmentMap.{is_free, is_live}
 use Rattle.model.proofs.Choosing.{split, tests, clash, parts, both_left, every_head, every_tail, some_least, least_skip, least_same}
 use Rattle.model.proofs.Ordered.{Ordered, after_clear, clear_before, clear_all}
 use Rattle.model.proofs.Served.{alignment_granules}
-use Rattle.segments.specs.Rows.{segment_at, segments_in, blocks_in}
+use Rattle.segments.specs.Rows.{nth_row}
 use Rattle.segments.specs.Tiling.{tiles, well_formed, no_two_free, is_map}
 use Rattle.segments.specs.Search.{Found}
 use Rattle.segments.specs.Steps.{padding}
 use Rattle.segments.proofs.TilesMap.{First, first, ordered_back, apart_tail}
-use Rattle.segments.proofs.Reading.{rest, rest_row, rest_none, tiles_le, row_end}
+use Rattle.segments.proofs.Reading.{rest_row, rest_none, tiles_le, row_end}
 use Rattle.segments.proofs.Padding.{Padded, padded}
 use Rattle.model.specs.declared.Segment.{Segment}
 use Rattle.segments.specs.declared.searching.Place.{Place}
@@ -109,49 +109,49 @@ module _ (c : Config) (g m a : ℕ) (hg : 1 ≤ g) (up : (s : ℕ) → Padded m 
       ∙ r)))
 
 -- The first hit is the first from row i on: no row before it is one.
-pub record Passed (g m f n i : ℕ) (ws : List ℕ) : Type 0 where
-  pub same : first_hit g m f 0 (segments_in n ws) ≡ first_hit g m f i (rest n i ws)
+pub record Passed (g m f i : ℕ) (xs : List Segment) : Type 0 where
+  pub same : first_hit g m f 0 xs ≡ first_hit g m f i (drop i xs)
 
-module _ {g m f n i : ℕ} {ws : List ℕ} (p : Passed g m f n i ws) (h : i < n) (x : Segment) (e : x ≡ segment_at ws i) where
-  this_row : rest n i ws ≡ x ∷ rest n (i + 1) ws
-  this_row = rest_row n i ws h ∙ ap (λ (y : Segment). y ∷ rest n (i + 1) ws) (sym e)
+module _ {g m f i : ℕ} {xs : List Segment} (p : Passed g m f i xs) (h : i < length xs) (x : Segment) (e : x ≡ nth_row xs i) where
+  this_row : drop i xs ≡ x ∷ drop (i + 1) xs
+  this_row = rest_row xs i h ∙ ap (λ (y : Segment). y ∷ drop (i + 1) xs) (sym e)
 
   -- Row i is no hit either.
-  pub passed_one : hit g m f x ≡ false → Passed g m f n (i + 1) ws
+  pub passed_one : hit g m f x ≡ false → Passed g m f (i + 1) xs
   passed_one q = record { same = p.same ∙ rw (this_row, q) }
 
   -- row i is the first hit
-  first_at : hit g m f x ≡ true → first_hit g m f 0 (segments_in n ws) ≡ Some (place i (x.start + padding m (f + x.start)))
+  first_at : hit g m f x ≡ true → first_hit g m f 0 xs ≡ Some (place i (x.start + padding m (f + x.start)))
   first_at q = p.same ∙ rw (this_row, q)
 
 -- the lowest start is that of the first hit
-lowest : (c : Config) (base n g a : ℕ) (ws : List ℕ) → c.base ≡ base → base % 16 ≡ 0 → is_map c (segments_in n ws) ≡ true → 1 ≤ g → is_alignment a ≡ true
-    → lowest_start c (blocks_in n ws) g a ≡ start_of (first_hit g (a / 16) (base / 16) 0 (segments_in n ws))
-lowest c base n g a ws at_base whole ok hg al =
+lowest : (c : Config) (base g a : ℕ) (xs : List Segment) → c.base ≡ base → base % 16 ≡ 0 → is_map c xs ≡ true → 1 ≤ g → is_alignment a ≡ true
+    → lowest_start c (filter is_live xs) g a ≡ start_of (first_hit g (a / 16) (base / 16) 0 xs)
+lowest c base g a xs at_base whole ok hg al =
     let m : (1 ≤ a / 16) × (a ≡ 16 * (a / 16)) = alignment_granules a al in
     let z : c.granules ≡ c.granules - 0 = omega arith in
     let w : c.base % 16 ≡ 0 = ap (λ (b : ℕ). b % 16) at_base ∙ whole in
-    ap (least_from (serves c (blocks_in n ws) g a) 0) z
-    ∙ lowest_hit c g (a / 16) a hg (padded (a / 16) a c.base m.0 m.1 w) 0 0 (segments_in n ws) (search parts) (search parts) (search parts)
-    ∙ ap (λ (b : ℕ). start_of (first_hit g (a / 16) (b / 16) 0 (segments_in n ws))) at_base
+    ap (least_from (serves c (filter is_live xs) g a) 0) z
+    ∙ lowest_hit c g (a / 16) a hg (padded (a / 16) a c.base m.0 m.1 w) 0 0 xs (search parts) (search parts) (search parts)
+    ∙ ap (λ (b : ℕ). start_of (first_hit g (a / 16) (b / 16) 0 xs)) at_base
 
-module _ (c : Config) {base n g a i : ℕ} {ws : List ℕ} (at_base : c.base ≡ base) (whole : base % 16 ≡ 0) (ok : is_map c (segments_in n ws) ≡ true)
-    (hg : 1 ≤ g) (al : is_alignment a ≡ true) (p : Passed g (a / 16) (base / 16) n i ws) where
+module _ (c : Config) {base g a i : ℕ} {xs : List Segment} (at_base : c.base ≡ base) (whole : base % 16 ≡ 0) (ok : is_map c xs ≡ true)
+    (hg : 1 ≤ g) (al : is_alignment a ≡ true) (p : Passed g (a / 16) (base / 16) i xs) where
   -- No row is a hit.
-  pub found_none : n ≤ i → Found c n g a ws None
-  found_none h = record { lowest = lowest c base n g a ws at_base whole ok hg al ∙ ap start_of (p.same ∙ ap (first_hit g (a / 16) (base / 16) i) (rest_none n i ws h)); room = tt }
+  pub found_none : length xs ≤ i → Found c xs g a None
+  found_none h = record { lowest = lowest c base g a xs at_base whole ok hg al ∙ ap start_of (p.same ∙ ap (first_hit g (a / 16) (base / 16) i) (rest_none xs i h)); room = tt }
 
   -- Row i is a hit: it ends in the arena, so the sum that is its start does not wrap.
-  pub found_at : c.granules ≤ 4294967295 → i < n → (x : Segment) → x ≡ segment_at ws i → hit g (a / 16) (base / 16) x ≡ true
-      → (s : ℕ) → s ≡ (x.start + padding (a / 16) (base / 16 + x.start)) % 2 ^ 32 → Found c n g a ws (Some (place i s))
+  pub found_at : c.granules ≤ 4294967295 → i < length xs → (x : Segment) → x ≡ nth_row xs i → hit g (a / 16) (base / 16) x ≡ true
+      → (s : ℕ) → s ≡ (x.start + padding (a / 16) (base / 16 + x.start)) % 2 ^ 32 → Found c xs g a (Some (place i s))
   found_at small h x e q s w =
-      let t : tiles 0 c.granules (segments_in n ws) ≡ true = search parts in
-      let b : x.start + x.length ≤ c.granules = rw e (row_end n c.granules ws i t h) in
+      let t : tiles 0 c.granules xs ≡ true = search parts in
+      let b : x.start + x.length ≤ c.granules = rw e (row_end c.granules xs i t h) in
       let f : is_free x ≡ true = search parts in
       let l : leb (padding (a / 16) (base / 16 + x.start) + g) x.length ≡ true = search parts in
       let z : s ≡ x.start + padding (a / 16) (base / 16 + x.start) = w ∙ mod-eq_of_lt (omega tests) in
       record {
-        lowest = lowest c base n g a ws at_base whole ok hg al ∙ ap start_of (first_at p h x e q ∙ ap (λ (k : ℕ). Some (place i k)) (sym z));
+        lowest = lowest c base g a xs at_base whole ok hg al ∙ ap start_of (first_at p h x e q ∙ ap (λ (k : ℕ). Some (place i k)) (sym z));
         room = record {
           in_use = h;
           free = sym (ap (λ (y : Segment). y.owner) e) ∙ eqb-true x.owner 0 f;

@@ -9,12 +9,11 @@ use Rattle.model.specs.SegmentMap.{is_free, is_live, gap, map_of, rows_of}
 use Rattle.model.proofs.Choosing.{split, tests, both_left, parts, both_true, every_head, every_tail, every_append, only_append, every_back, every_only, every_picked}
 use Rattle.model.proofs.Ordered.{Live, Ordered, long, clear_before}
 use Rattle.model.proofs.MapRows.{gap_short}
-use Rattle.segments.specs.Rows.{segment_at, segments_in, blocks_in}
+use Rattle.segments.specs.Rows.{nth_row}
 use Rattle.segments.specs.Tiling.{tiles, well_formed, is_map}
 use Rattle.segments.specs.Changes.{replaced, cut}
 use Rattle.segments.proofs.MapTiles.{gap_free, gap_formed, tiles_cons, tiles_gap, gap_tiles, live_formed, owner_not_0, live_map, tiles_map, is_map_lem}
 use Rattle.segments.proofs.TilesMap.{First, first}
-use Rattle.segments.proofs.Rows.{length_segments}
 use Rattle.segments.proofs.Written.{length_replaced}
 use Rattle.segments.proofs.Reading.{row_parted}
 use Rattle.segments.proofs.Apart.{apart_from, first_free, last_free, apart_free, apart_first, gap_apart}
@@ -75,25 +74,23 @@ module _ (c : Config) (ys zs : List Segment) (x b : Segment) (m : is_map c (ys +
       ∙ refilled c ys (x ∷ []) zs r.place (cut x b) t (cut_formed c x b l) (cut_apart c x b l)
       (apart_free (last_free false ys) x zs free r.apart) (apart_first zs (rw free at r.apart_after))
 
--- Row i of a table, free and cut for a block in it, gives the map of the blocks with that one.
-pub split_rows : (c : Config) (n : ℕ) (ws : List ℕ) (i : ℕ) (b : Segment) → i < n → is_map c (segments_in n ws) ≡ true → (segment_at ws i).owner ≡ 0
-    → Live c b → (segment_at ws i).start ≤ b.start → b.start + b.length ≤ (segment_at ws i).start + (segment_at ws i).length
-    → replaced i 1 (cut (segment_at ws i) b) (segments_in n ws) ≡ map_of c (insert b (blocks_in n ws))
-split_rows c n ws i b h m free l low high =
-    let xs : List Segment = segments_in n ws in
-    let e : xs ≡ take i xs ++ (segment_at ws i ∷ drop (i + 1) xs) = row_parted n ws i h in
+-- Row i of a map, free and cut for a block in it, gives the map of the blocks with that one.
+pub split_rows : (c : Config) (xs : List Segment) (i : ℕ) (b : Segment) → i < length xs → is_map c xs ≡ true → (nth_row xs i).owner ≡ 0
+    → Live c b → (nth_row xs i).start ≤ b.start → b.start + b.length ≤ (nth_row xs i).start + (nth_row xs i).length
+    → replaced i 1 (cut (nth_row xs i) b) xs ≡ map_of c (insert b (filter is_live xs))
+split_rows c xs i b h m free l low high =
+    let e : xs ≡ take i xs ++ (nth_row xs i ∷ drop (i + 1) xs) = row_parted xs i h in
     sym (ap (λ r. map_of c (insert b (filter is_live r))) e
-    ∙ cut_map c (take i xs) (drop (i + 1) xs) (segment_at ws i) b (subst (λ r. is_map c r ≡ true) e m) (eq-eqb (segment_at ws i).owner 0 free) l low high)
+    ∙ cut_map c (take i xs) (drop (i + 1) xs) (nth_row xs i) b (subst (λ r. is_map c r ≡ true) e m) (eq-eqb (nth_row xs i).owner 0 free) l low high)
 
 -- The rows with that block are those before, less the one cut, and those that it is cut into.
-pub split_count : (c : Config) (n : ℕ) (ws : List ℕ) (i : ℕ) (b : Segment) → i < n → is_map c (segments_in n ws) ≡ true → (segment_at ws i).owner ≡ 0
-    → Live c b → (segment_at ws i).start ≤ b.start → b.start + b.length ≤ (segment_at ws i).start + (segment_at ws i).length
-    → rows_of c (insert b (blocks_in n ws)) ≡ n - 1 + length (cut (segment_at ws i) b)
-split_count c n ws i b h m free l low high =
-    let x : List Segment = cut (segment_at ws i) b in
-    sym (ap length (split_rows c n ws i b h m free l low high))
-    ∙ length_replaced i 1 x (segments_in n ws) (omega (arith, length_segments n ws))
-    ∙ ap (λ (k : ℕ). k - 1 + length x) (length_segments n ws)
+pub split_count : (c : Config) (xs : List Segment) (i : ℕ) (b : Segment) → i < length xs → is_map c xs ≡ true → (nth_row xs i).owner ≡ 0
+    → Live c b → (nth_row xs i).start ≤ b.start → b.start + b.length ≤ (nth_row xs i).start + (nth_row xs i).length
+    → rows_of c (insert b (filter is_live xs)) ≡ length xs - 1 + length (cut (nth_row xs i) b)
+split_count c xs i b h m free l low high =
+    let x : List Segment = cut (nth_row xs i) b in
+    sym (ap length (split_rows c xs i b h m free l low high))
+    ∙ length_replaced i 1 x xs (omega arith)
 
 -- the row of a tiling that has a granule
 record RowAt (g : ℕ) (xs : List Segment) : Type 0 where

@@ -1,10 +1,10 @@
 -- What is done to the rows in use when a block is lent, given back or resized.
 -- Assumes nothing.
-use Rattle.std.specs.Prelude.{◌≡◌, ℕ, ◌+◌, ◌-◌, ◌*◌, ◌<◌, ◌≤◌, true, if◌then◌else◌, ◌&&◌, List, [], ◌∷◌, ◌++◌, length, take, drop, nat_lt}
+use Rattle.std.specs.Prelude.{◌≡◌, ℕ, ◌+◌, ◌-◌, ◌<◌, ◌≤◌, true, if◌then◌else◌, ◌&&◌, List, [], ◌∷◌, ◌++◌, length, take, drop, nat_lt}
 use Rattle.model.specs.Quantities.{Config}
 use Rattle.model.specs.Allocation.{room}
 use Rattle.model.specs.SegmentMap.{is_free, is_live, free_run, gap}
-use Rattle.segments.specs.Rows.{segment_at, segments_in}
+use Rattle.segments.specs.Rows.{nth_row}
 use Rattle.segments.specs.Tiling.{well_formed, is_map}
 use Rattle.segments.specs.Search.{others}
 use Rattle.model.specs.declared.Segment.{Segment}
@@ -48,13 +48,12 @@ freed i xs = take i xs ++ free_first (drop i xs)
 abbrev pub released : ℕ → List Segment → List Segment
 released i xs = if nat_lt 0 i then joined (i - 1) (joined i (freed i xs)) else joined i (freed i xs)
 
--- A block may take the place of the one in row i of n, which are a map: there is room for it beside the other blocks.
-pub record Replaceable (c : Config) (n i : ℕ) (b : Segment) (ws : List ℕ) : Type 0 where
-  pub in_use : i < n
-  pub map : is_map c (segments_in n ws) ≡ true
+-- A block may take the place of the one in row i of a map: there is room for it beside the other blocks.
+pub record Replaceable (c : Config) (xs : List Segment) (i : ℕ) (b : Segment) : Type 0 where
+  pub in_use : i < length xs
+  pub map : is_map c xs ≡ true
   pub small : c.granules ≤ 4294967295
-  pub old : is_live (segment_at ws i) ≡ true
+  pub old : is_live (nth_row xs i) ≡ true
   pub formed : well_formed c b ≡ true
   pub live : is_live b ≡ true
-  pub fits : room c (others n i ws) b.length b.start ≡ true
-  pub words : 4 * n ≤ length ws
+  pub fits : room c (others xs i) b.length b.start ≡ true

@@ -1,7 +1,7 @@
 -- The rows of a table as words: written, read back, and written over.
 -- Assumes nothing.
-use Rattle.std.specs.Prelude.{◌≡◌, ℕ, zero, suc, ◌+◌, ◌-◌, ◌*◌, max, List, [], ◌∷◌, ◌++◌, filter, length, take, drop, replicate, slice_index}
-use Rattle.model.specs.SegmentMap.{is_live}
+use Rattle.std.specs.Prelude.{◌≡◌, ℕ, zero, suc, ◌+◌, ◌-◌, ◌*◌, max, List, [], ◌∷◌, ◌++◌, filter, length, take, drop, replicate, slice_index, slice_index_or}
+use Rattle.model.specs.SegmentMap.{is_live, free_run}
 use Rattle.model.specs.declared.Segment.{Segment}
 
 -- Each row is four words: start granule, length in granules, owner (0 means free), bytes requested (0 if free).
@@ -21,6 +21,10 @@ segment_at ws i = record { start = slice_index ws (4 * i); length = slice_index 
 abbrev pub segments_in : ℕ → List ℕ → List Segment
 segments_in zero ws = []
 segments_in (suc n) ws = segment_at ws 0 ∷ segments_in n (drop 4 ws)
+
+-- Row i of the rows in use; past the last it reads as zeros.
+abbrev pub nth_row : List Segment → ℕ → Segment
+nth_row xs i = slice_index_or xs i (free_run 0 0)
 
 -- The live blocks in the first n rows are the segments there that are not free.
 abbrev pub blocks_in : ℕ → List ℕ → List Segment

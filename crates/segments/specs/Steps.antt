@@ -1,9 +1,9 @@
 -- What the functions within the crate do, step by step: a caller needs none of it.
 -- Assumes nothing.
-use Rattle.std.specs.Prelude.{ℕ, ◌+◌, ◌-◌, ◌%◌, max, Bool, true, false, not, if◌then◌else◌, ◌&&◌, List, replicate, ◌==◌, nat_le, nat_lt, slice_index, slice_set}
+use Rattle.std.specs.Prelude.{ℕ, ◌+◌, ◌-◌, ◌%◌, max, Bool, true, false, not, if◌then◌else◌, ◌&&◌, List, length, replicate, ◌==◌, nat_le, nat_lt, slice_index, slice_set}
 use Rattle.model.specs.Quantities.{Config}
 use Rattle.model.specs.SegmentMap.{is_free, free_run}
-use Rattle.segments.specs.Rows.{segment_at}
+use Rattle.segments.specs.Rows.{nth_row}
 use Rattle.segments.specs.Tiling.{well_formed}
 use Rattle.model.specs.declared.Segment.{Segment}
 use Rattle.segments.specs.declared.census.Census.{Census}
@@ -50,16 +50,16 @@ live_of k o n =
     }
 
 -- The free run that row i leaves when it is released begins at the row before it if that is free, else at row i.
-abbrev pub run_from : ℕ → List ℕ → ℕ
-run_from i ws = if nat_lt 0 i && is_free (segment_at ws (i - 1)) then (segment_at ws (i - 1)).start else (segment_at ws i).start
+abbrev pub run_from : List Segment → ℕ → ℕ
+run_from xs i = if nat_lt 0 i && is_free (nth_row xs (i - 1)) then (nth_row xs (i - 1)).start else (nth_row xs i).start
 
--- It ends with the row after it if that is one of the n and free, else with row i.
-abbrev pub run_to : ℕ → ℕ → List ℕ → ℕ
-run_to n i ws =
-    if nat_lt (i + 1) n && is_free (segment_at ws (i + 1))
-    then (segment_at ws (i + 1)).start + (segment_at ws (i + 1)).length
-    else (segment_at ws i).start + (segment_at ws i).length
+-- It ends with the row after it if there is one and that is free, else with row i.
+abbrev pub run_to : List Segment → ℕ → ℕ
+run_to xs i =
+    if nat_lt (i + 1) (length xs) && is_free (nth_row xs (i + 1))
+    then (nth_row xs (i + 1)).start + (nth_row xs (i + 1)).length
+    else (nth_row xs i).start + (nth_row xs i).length
 
 -- It is one free row.
-abbrev pub run_around : ℕ → ℕ → List ℕ → Segment
-run_around n i ws = free_run (run_from i ws) (run_to n i ws - run_from i ws)
+abbrev pub run_around : List Segment → ℕ → Segment
+run_around xs i = free_run (run_from xs i) (run_to xs i - run_from xs i)

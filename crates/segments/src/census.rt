@@ -1,11 +1,11 @@
 //! One pass over the rows: whether they are a map of the arena, and the figures of the live blocks and free runs.
 
-ghost use Rattle.std.specs.Prelude.{◌≡◌, ◌+◌, ◌*◌, ◌≤◌, length};
+ghost use Rattle.std.specs.Prelude.{◌≡◌, ◌+◌, ◌≤◌};
 ghost use Rattle.model.specs.Quantities.{Config};
 ghost use Rattle.segments.specs.Counting.{Bounded, Counted};
 ghost use Rattle.segments.specs.Steps.{none_counted, follows_of, free_of, live_of};
 
-use crate::row_words::row;
+use crate::row_list::RowList;
 use model::{Segment, granules_with};
 
 /// The figures of the rows counted: the granule where they end, and whether the last of them is free, which only the pass needs; the granules of the live
@@ -81,26 +81,27 @@ impl Census {
     }
 }
 
-/// The figures of the rows if they are a map of the arena; `None` if they are not.
-pub fn take_census(table: &[u32], rows: usize, granules: u32, guards: u32) -> Option<Census>
-    requires words { 4 * rows ≤ length table.now }
-    requires guards { guards ≤ 1 }
-    ensures { (c : Config) → c.granules ≡ granules → c.guards ≡ guards → Counted c rows table.now result }
-{
-    let mut k = Census::new();
-    for i in 0..rows {
-        let s = row(table, i);
-        if !k.is_followed_by(s, granules, guards) {
+impl<'a> RowList<'a> {
+    /// The figures of the rows if they are a map of the arena; `None` if they are not.
+    pub fn take_census(&self, granules: u32, guards: u32) -> Option<Census>
+        requires { guards ≤ 1 }
+        ensures { (c : Config) → c.granules ≡ granules → c.guards ≡ guards → Counted c self.now result }
+    {
+        let mut k = Census::new();
+        for i in 0..self.len() {
+            let s = self.get(i);
+            if !k.is_followed_by(s, granules, guards) {
+                return None;
+            }
+            if s.owner == 0 {
+                k.count_free(s.length);
+            } else {
+                k.count_block(s.owner, s.length);
+            }
+        }
+        if k.end != granules {
             return None;
         }
-        if s.owner == 0 {
-            k.count_free(s.length);
-        } else {
-            k.count_block(s.owner, s.length);
-        }
+        Some(k)
     }
-    if k.end != granules {
-        return None;
-    }
-    Some(k)
 }

@@ -5,7 +5,7 @@ use Prim.Native.Nat.{◌≤◌}
 use native.Mathlib.Omega.{arith}
 use Rattle.std.proofs.Common.{rules}
 use Rattle.heap.specs.Stored.{config_of}
-use Rattle.heap.proofs.Reallocating.{realloc_zero, new_asked, replace_asked, carry_asked, new_inside, arena_most, used_fits, rows_fit, realloc_done}
+use Rattle.heap.proofs.Reallocating.{realloc_zero, new_asked, replace_words, replace_asked, carry_asked, new_inside, arena_most, used_fits, rows_fit, realloc_done}
 use Rattle.heap.proofs.record.Heap.realloc.Goals as goal
 
 pub returns-then-size-eq0 : goal.returns-then-size-eq0
@@ -23,7 +23,11 @@ new_block-new-requires c =
 pub replace_row-rows-requires : goal.replace_row-rows-requires
 replace_row-rows-requires c =
     let size : 1 ≤ c.args.size = omega (arith, c.if-size-eq0.false) in
-    replace_asked _ _ _ _ _ _ size _ c.find_resize-refitted.ensures _ c.in-Ok.is _ (c.new_block-new.ensures (config_of c.args.self) refl)
+    let new = c.new_block-new.ensures (config_of c.args.self) refl in
+    record {
+      words = replace_words _ _ _ _ _ _ size _ c.find_resize-refitted.ensures _ c.in-Ok.is _ new;
+      block = replace_asked _ _ _ _ _ _ size _ c.find_resize-refitted.ensures _ c.in-Ok.is _ new;
+    }
 
 pub carry_bytes-requires : goal.carry_bytes-requires
 carry_bytes-requires c =

@@ -1,8 +1,8 @@
--- `segments::searching::row_of` meets its contract. The loop's invariant: row `low` is row 0 or does not start after the granule, and row `high`, if in use, starts after it.
+-- `segments::row_list::RowList::row_of` meets its contract. The loop's invariant: row `low` is row 0 or does not start after the granule, and row `high`, if in use, starts after it.
 -- The measure is the rows between. Assumes nothing.
 use Rattle.std.proofs.Common.{◌≡◌, ◌+◌, arith}
 use Rattle.segments.proofs.Tiled.{row_has}
-use Rattle.segments.proofs.searching.row_of.Goals as goal
+use Rattle.segments.proofs.row_list.RowList.row_of.Goals as goal
 
 pub returns : goal.returns
 returns c =

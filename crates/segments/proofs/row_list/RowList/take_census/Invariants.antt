@@ -1,14 +1,12 @@
 -- The loop's invariant: the figures counted, with the rows that are left, are those of all rows.
-use Rattle.std.proofs.Common.{◌≡◌}
+use Rattle.std.proofs.Common.{◌≡◌, drop}
 use Rattle.model.specs.Quantities.{Config}
-use Rattle.segments.specs.Rows.{segments_in}
 use Rattle.segments.specs.Counting.{Bounded}
-use Rattle.segments.proofs.Reading.{rest}
 use Rattle.segments.proofs.AllCounted.{Ahead}
-use Rattle.segments.proofs.census.take_census.Given as goal
+use Rattle.segments.proofs.row_list.RowList.take_census.Given as goal
 
 abbrev pub invariant-loop-i : goal.invariant-loop-i
 invariant-loop-i l = record {
-  ahead : (c : Config) → c.granules ≡ l.granules → c.guards ≡ l.guards → Ahead c l.k (rest l.rows l.i l.table) (segments_in l.rows l.table);
+  ahead : (c : Config) → c.granules ≡ l.granules → c.guards ≡ l.guards → Ahead c l.k (drop l.i l.self) l.self;
   bounded : Bounded l.granules l.k;
 }

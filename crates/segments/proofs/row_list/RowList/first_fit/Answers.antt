@@ -1,16 +1,16 @@
--- `segments::searching::first_fit` meets its contract. The loop's invariant: no row before row `i` is a hit.
+-- `segments::row_list::RowList::first_fit` meets its contract. The loop's invariant: no row before row `i` is a hit.
 -- The measure is the rows left. Assumes nothing.
 use Rattle.std.proofs.Common.{ℕ, ◌+◌, ◌%◌, ◌^◌, ap, ◌∙◌, arith, eq-eqb, ne_eqb, le-leb}
 use borrow.Author.Tests.{lt-leb}
 use Rattle.segments.proofs.Padding.{padding_past}
 use Rattle.segments.proofs.Scanned.{passed_one, found_none, found_at}
-use Rattle.segments.proofs.searching.first_fit.Goals as goal
-use Rattle.segments.proofs.searching.first_fit.Goals.{then-s-eq0+else-skipped-need, else-s-eq0}
+use Rattle.segments.proofs.row_list.RowList.first_fit.Goals as goal
+use Rattle.segments.proofs.row_list.RowList.first_fit.Goals.{then-s-eq0+else-skipped-need, else-s-eq0}
 
 pub loop-i-preserved : goal.loop-i-preserved
 loop-i-preserved c =
     let l = c.loop-i in
-    let r = c.row-s in (
+    let r = c.get-s in (
       omega arith,
       passed_one l.invariant.1 (omega arith) r.result r.ensures
           (elim c.if-s-eq0.branch [
@@ -19,14 +19,14 @@ loop-i-preserved c =
           ]),
     )
 
-pub returns-then-rows-i : goal.returns-then-rows-i
-returns-then-rows-i c config at_base small ok =
+pub returns-then-len-i : goal.returns-then-len-i
+returns-then-len-i c config at_base small ok =
     found_none config at_base c.requires.base ok c.requires.some c.requires.align c.loop-i.invariant.1 (omega arith)
 
 pub returns-then-skipped-need : goal.returns-then-skipped-need
 returns-then-skipped-need c config at_base small ok =
     let l = c.loop-i in
-    let r = c.row-s in
+    let r = c.get-s in
     let p = c.padding_of-skipped in
     let e = p.ensures.answer ∙ padding_past _ _ _ in
     found_at config at_base c.requires.base ok c.requires.some c.requires.align l.invariant.1 small (omega arith) r.result r.ensures
