@@ -53,11 +53,13 @@ pub fn alloc(
     size: u32,
 ) -> Result<u32, Refusal>
     ensures answer { result ≡ calls.alloc (handed heap.old table.old) arena.old owner size }
-    ensures numbered { value_numbered result ≡ calls.numbered_alloc (handed heap.old table.old) arena.old owner size 16 }
+    ensures numbered { value_numbered result
+        ≡ calls.numbered_alloc (handed heap.old table.old) arena.old owner size 16 }
 
     ensures heap { heap.new ≡ (calls.after_alloc (handed heap.old table.old) arena.old owner size).heap }
     ensures table { table.new ≡ (calls.after_alloc (handed heap.old table.old) arena.old owner size).words }
-    ensures arena { arena.new ≡ calls.arena_after_alloc_aligned (handed heap.old table.old) arena.old owner size 16 }
+    ensures arena { arena.new
+        ≡ calls.arena_after_alloc_aligned (handed heap.old table.old) arena.old owner size 16 }
 {
     let out = record_of(heap).alloc(table, arena, owner, size);
     *heap = out.heap;
@@ -75,11 +77,15 @@ pub fn alloc_aligned(
     align: u32,
 ) -> Result<u32, Refusal>
     ensures answer { result ≡ calls.alloc_aligned (handed heap.old table.old) arena.old owner size align }
-    ensures numbered { value_numbered result ≡ calls.numbered_alloc (handed heap.old table.old) arena.old owner size align }
+    ensures numbered { value_numbered result
+        ≡ calls.numbered_alloc (handed heap.old table.old) arena.old owner size align }
 
-    ensures heap { heap.new ≡ (calls.after_alloc_aligned (handed heap.old table.old) arena.old owner size align).heap }
-    ensures table { table.new ≡ (calls.after_alloc_aligned (handed heap.old table.old) arena.old owner size align).words }
-    ensures arena { arena.new ≡ calls.arena_after_alloc_aligned (handed heap.old table.old) arena.old owner size align }
+    ensures heap { heap.new
+        ≡ (calls.after_alloc_aligned (handed heap.old table.old) arena.old owner size align).heap }
+    ensures table { table.new
+        ≡ (calls.after_alloc_aligned (handed heap.old table.old) arena.old owner size align).words }
+    ensures arena { arena.new
+        ≡ calls.arena_after_alloc_aligned (handed heap.old table.old) arena.old owner size align }
 {
     let out = record_of(heap).alloc_aligned(table, arena, owner, size, align);
     *heap = out.heap;
@@ -96,7 +102,8 @@ pub fn free(
     offset: u32,
 ) -> Result<u32, Refusal>
     ensures answer { result ≡ calls.free (handed heap.old table.old) arena.old owner offset }
-    ensures numbered { value_numbered result ≡ calls.numbered_free (handed heap.old table.old) arena.old owner offset }
+    ensures numbered { value_numbered result
+        ≡ calls.numbered_free (handed heap.old table.old) arena.old owner offset }
 
     ensures heap { heap.new ≡ (calls.after_free (handed heap.old table.old) arena.old owner offset).heap }
     ensures table { table.new ≡ (calls.after_free (handed heap.old table.old) arena.old owner offset).words }
@@ -118,11 +125,15 @@ pub fn realloc(
     size: u32,
 ) -> Result<Resized, Refusal>
     ensures answer { result ≡ calls.realloc (handed heap.old table.old) arena.old owner offset size }
-    ensures numbered { resized_numbered result ≡ calls.numbered_realloc (handed heap.old table.old) arena.old owner offset size }
+    ensures numbered { resized_numbered result
+        ≡ calls.numbered_realloc (handed heap.old table.old) arena.old owner offset size }
 
-    ensures heap { heap.new ≡ (calls.after_realloc (handed heap.old table.old) arena.old owner offset size).heap }
-    ensures table { table.new ≡ (calls.after_realloc (handed heap.old table.old) arena.old owner offset size).words }
-    ensures arena { arena.new ≡ calls.arena_after_realloc (handed heap.old table.old) arena.old owner offset size }
+    ensures heap { heap.new
+        ≡ (calls.after_realloc (handed heap.old table.old) arena.old owner offset size).heap }
+    ensures table { table.new
+        ≡ (calls.after_realloc (handed heap.old table.old) arena.old owner offset size).words }
+    ensures arena { arena.new
+        ≡ calls.arena_after_realloc (handed heap.old table.old) arena.old owner offset size }
 {
     let out = record_of(heap).realloc(table, arena, owner, offset, size);
     *heap = out.heap;
@@ -132,7 +143,8 @@ pub fn realloc(
 /// The bytes requested and the bytes held of the block of `owner` at byte `offset`. Refused with 1, 2, 15, 16, 17, 9, 10, in this order.
 pub fn block_size(heap: &Heap, table: &[u32], owner: u32, offset: u32) -> Result<BlockSize, Refusal>
     ensures answer { result ≡ calls.block_size (handed heap.now table.now) owner offset }
-    ensures numbered { size_numbered result ≡ calls.numbered_block_size (handed heap.now table.now) owner offset }
+    ensures numbered { size_numbered result
+        ≡ calls.numbered_block_size (handed heap.now table.now) owner offset }
 {
     record_of(heap).block_size(table, owner, offset)
 }

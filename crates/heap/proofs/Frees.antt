@@ -42,7 +42,7 @@ use Rattle.model.specs.declared.BlockSize.{BlockSize}
 use Rattle.model.specs.declared.Refusal.{Refusal}
 use Rattle.model.specs.declared.Refusal.TheVariants as refusal
 use Rattle.heap.specs.declared.record.Heap.{Heap}
-use Rattle.heap.specs.declared.freeing.Found.{Found}
+use Rattle.heap.specs.declared.finding.LiveRow.{LiveRow}
 
 module _ (r : Heap) (ws : List ℕ) where
   -- A row in use is in the table, and holds no more bytes than an arena has.
@@ -51,12 +51,12 @@ module _ (r : Heap) (ws : List ℕ) where
     row_bytes s e = omega (arith, (bounds r ws v).row i h, (bounds r ws v).granules, ap (λ (k : Segment). k.length) e)
 
   -- What one order decides, another with the same first reason does.
-  decides : (x : ℕ) (p q : Order Refusal) → first_reason p ≡ first_reason q → (l : Result Found Refusal) → LookedUp p r ws x l → LookedUp q r ws x l
+  decides : (x : ℕ) (p q : Order Refusal) → first_reason p ≡ first_reason q → (l : Result LiveRow Refusal) → LookedUp p r ws x l → LookedUp q r ws x l
   decides x p q e (Err why) d = sym e ∙ d
   decides x p q e (Ok found) d = (sym e ∙ d.0, d.1)
 
   -- A refusal is decided by its reason.
-  looked_not : (x : ℕ) (p : Order Refusal) (l : Result Found Refusal) (why : Refusal) → l ≡ Err why → first_reason p ≡ Some why → LookedUp p r ws x l
+  looked_not : (x : ℕ) (p : Order Refusal) (l : Result LiveRow Refusal) (why : Refusal) → l ≡ Err why → first_reason p ≡ Some why → LookedUp p r ws x l
   looked_not x p l why q e = subst (LookedUp p r ws x) (sym q) e
 
 -- A row in use has the block at x.
@@ -65,7 +65,7 @@ pub record BlockRow (r : Heap) (ws : List ℕ) (x row : ℕ) : Type 0 where
   pub block : block_at x (blocks_in r.rows ws) ≡ Some (nth_row (segments_in r.rows ws) row)
 
 -- So has the row of a block that was found.
-pub row_found : {r : Heap} {ws : List ℕ} {x : ℕ} {found : Found} → IsBlock r ws x found → BlockRow r ws x found.row
+pub row_found : {r : Heap} {ws : List ℕ} {x : ℕ} {found : LiveRow} → IsBlock r ws x found → BlockRow r ws x found.row
 row_found b = record { in_use = b.in_use; block = b.block ∙ ap Some b.there }
 
 -- A row that has the block at x is live and begins there.
@@ -102,7 +102,7 @@ module _ (r : Heap) (ws : List ℕ) (o x : ℕ) where
   abbrev look_order : Order Refusal
   look_order = block_order (config_of r) (state_in r ws) o x
 
-  pub owned_not : (l : Result Found Refusal) (why : Refusal) → l ≡ Err why → first_reason look_order ≡ Some why → LookedUp look_order r ws x l
+  pub owned_not : (l : Result LiveRow Refusal) (why : Refusal) → l ≡ Err why → first_reason look_order ≡ Some why → LookedUp look_order r ws x l
   owned_not l why q e = looked_not r ws x look_order l why q e
 
   abbrev size_order : Order Refusal
@@ -160,14 +160,14 @@ module _ (r : Heap) (ws : List ℕ) (o x : ℕ) where
   unfolding block_size_order
   size_invalid v = size_refused refusal.InvalidHeap (rw v)
 
-  module _ (v : valid r ws ≡ true) (l : Result Found Refusal) (f : LookedUp look_order r ws x l) where
+  module _ (v : valid r ws ≡ true) (l : Result LiveRow Refusal) (f : LookedUp look_order r ws x l) where
     sized : LookedUp size_order r ws x l
     sized = decides r ws x look_order size_order (rw v (sym (size_asks (config_of r) (state_in r ws) o x))) l f
 
     pub size_not : (why : Refusal) → l ≡ Err why → (out : Result BlockSize Refusal) → out ≡ Err why → BlockSizeDone r ws o x out
     size_not why q = size_refused why (subst (LookedUp size_order r ws x) q sized)
 
-    module _ (found : Found) (q : l ≡ Ok found) where
+    module _ (found : LiveRow) (q : l ≡ Ok found) where
       looked : LookedUp size_order r ws x (Ok found)
       looked = subst (LookedUp size_order r ws x) q sized
 
@@ -188,10 +188,10 @@ module _ (r : Heap) (ws : List ℕ) (o x : ℕ) where
     abbrev valid_order : Order Refusal
     valid_order = free_order true (config_of r) (state_in r ws) arena o x
 
-    pub valid_not : (l : Result Found Refusal) (why : Refusal) → l ≡ Err why → first_reason valid_order ≡ Some why → LookedUp valid_order r ws x l
+    pub valid_not : (l : Result LiveRow Refusal) (why : Refusal) → l ≡ Err why → first_reason valid_order ≡ Some why → LookedUp valid_order r ws x l
     valid_not l why q e = looked_not r ws x valid_order l why q e
 
-    pub freed_not : (l : Result Found Refusal) (why : Refusal) → l ≡ Err why → first_reason order ≡ Some why → LookedUp order r ws x l
+    pub freed_not : (l : Result LiveRow Refusal) (why : Refusal) → l ≡ Err why → first_reason order ≡ Some why → LookedUp order r ws x l
     freed_not l why q e = looked_not r ws x order l why q e
 
     -- 11,
@@ -200,14 +200,14 @@ module _ (r : Heap) (ws : List ℕ) (o x : ℕ) where
     free_11 why e = first_stays (other_arena (config_of r) arena ∷ []) (look_order ++ guard_order) why e
 
     -- and after it the owner and the offset decide, and then the guard.
-    module _ (a : has_recorded_length (config_of r) arena ≡ true) (l : Result Found Refusal) (f : LookedUp look_order r ws x l) where
+    module _ (a : has_recorded_length (config_of r) arena ≡ true) (l : Result LiveRow Refusal) (f : LookedUp look_order r ws x l) where
       asked_then : first_reason valid_order ≡ first_reason (look_order ++ guard_order)
       asked_then = free_asks (config_of r) (state_in r ws) arena o x a
 
       pub free_undecided : (why : Refusal) → l ≡ Err why → first_reason valid_order ≡ Some why
       free_undecided why q = asked_then ∙ first_stays look_order guard_order why (subst (LookedUp look_order r ws x) q f)
 
-      module _ (found : Found) (q : l ≡ Ok found) where
+      module _ (found : LiveRow) (q : l ≡ Ok found) where
         at : LookedUp look_order r ws x (Ok found)
         at = subst (LookedUp look_order r ws x) q f
 
@@ -224,20 +224,20 @@ module _ (r : Heap) (ws : List ℕ) (o x : ℕ) where
         free_passed e = (asked_last ∙ passed_by guard_order e, free_block)
 
     -- With 1 it is the whole order.
-    pub free_of_valid : valid r ws ≡ true → (l : Result Found Refusal) → LookedUp valid_order r ws x l → LookedUp order r ws x l
+    pub free_of_valid : valid r ws ≡ true → (l : Result LiveRow Refusal) → LookedUp valid_order r ws x l → LookedUp order r ws x l
     free_of_valid v = decides r ws x valid_order order (rw v)
 
     pub free_invalid : valid r ws ≡ false → first_reason order ≡ Some refusal.InvalidHeap
     unfolding free_order
     free_invalid v = rw v
 
-    module _ (l : Result Found Refusal) (f : LookedUp order r ws x l) where
+    module _ (l : Result LiveRow Refusal) (f : LookedUp order r ws x l) where
       pub free_not : (why : Refusal) → l ≡ Err why → FreeDone r ws arena o x (record { answer = Err why; heap = r }) ws arena
       free_not why q =
           let e : first_reason order ≡ Some why = subst (LookedUp order r ws x) q f in
           record { answer = rw e; numbered = rw e; heap = rw e; table = rw e; arena = rw e }
 
-      module _ (was : Found) (q : l ≡ Ok was) where
+      module _ (was : LiveRow) (q : l ≡ Ok was) where
         found : LookedUp order r ws x (Ok was)
         found = subst (LookedUp order r ws x) q f
 

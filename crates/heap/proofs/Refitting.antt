@@ -42,7 +42,7 @@ use Rattle.model.specs.declared.Refusal.{Refusal}
 use Rattle.model.specs.declared.Refusal.TheVariants as refusal
 use Rattle.segments.specs.declared.census.Census.{Census}
 use Rattle.heap.specs.declared.record.Heap.{Heap}
-use Rattle.heap.specs.declared.freeing.Found.{Found}
+use Rattle.heap.specs.declared.finding.LiveRow.{LiveRow}
 use Rattle.heap.specs.declared.resizing.Refitted.{Refitted}
 
 -- a resize by owner o, in a valid heap, of the block at x in row i, to n bytes, not 0
@@ -53,7 +53,7 @@ module _ (r : Heap) (ws : List ℕ) (v : valid r ws ≡ true) (o : ℕ) (known :
   bounded : Bounds r ws v
   bounded = bounds r ws v
 
-  module _ (x : ℕ) (was : Found) (here : IsBlock r ws x was) where
+  module _ (x : ℕ) (was : LiveRow) (here : IsBlock r ws x was) where
     abbrev i : ℕ
     i = was.row
 
@@ -172,11 +172,11 @@ module _ (r : Heap) (ws arena : List ℕ) (o x n : ℕ) (some_size : 1 ≤ n) wh
   pub refit_invalid : valid r ws ≡ false → (p : Result Refitted Refusal) → p ≡ Err refusal.InvalidHeap → ResizeDecided whole r ws o x n p
   refit_invalid v p q = refused p refusal.InvalidHeap q (free_invalid r ws o x arena v)
 
-  module _ (l : Result Found Refusal) (f : LookedUp before r ws x l) where
+  module _ (l : Result LiveRow Refusal) (f : LookedUp before r ws x l) where
     pub refit_not : (why : Refusal) → l ≡ Err why → (p : Result Refitted Refusal) → p ≡ Err why → ResizeDecided whole r ws o x n p
     refit_not why q p e = refused p why e (subst (LookedUp before r ws x) q f)
 
-    module _ (was : Found) (q : l ≡ Ok was) where
+    module _ (was : LiveRow) (q : l ≡ Ok was) where
       looked : LookedUp before r ws x (Ok was)
       looked = subst (LookedUp before r ws x) q f
 

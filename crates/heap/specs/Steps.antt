@@ -18,7 +18,7 @@ use Rattle.model.specs.declared.Refusal.TheVariants as refusal
 use Rattle.segments.specs.declared.census.Census.{Census}
 use Rattle.heap.specs.declared.record.Heap.{Heap}
 use Rattle.segments.specs.declared.searching.Place.{Place}
-use Rattle.heap.specs.declared.freeing.Found.{Found}
+use Rattle.heap.specs.declared.finding.LiveRow.{LiveRow}
 use Rattle.heap.specs.declared.resizing.Refitted.{Refitted}
 
 -- The conditions of a valid heap that can be told without a look at a row: the ranges, the table's length, and that the rows in use are 1 to its rows.
@@ -44,7 +44,7 @@ pub record Examination (r : Heap) (ws : List ℕ) (k : Census) : Type 0 where
   pub valid : valid r ws ≡ true
   pub figures : Figures (config_of r) (segments_in r.rows ws) k
 
--- What a check of a record and a table tells: the figures of a valid heap, or 1 if they are none.
+-- What a check of a record and a table tells: the figures of a valid heap, or 1 if they are no valid heap.
 abbrev pub Examined : Heap → List ℕ → Result Census Refusal → Type 0
 Examined r ws (Ok k) = Examination r ws k
 Examined r ws (Err why) = (valid r ws ≡ false) × (why ≡ refusal.InvalidHeap)
@@ -70,13 +70,13 @@ segment_order s bytes o x =
     ∷ []
 
 -- What was found is the block at x, and its row is one in use.
-pub record IsBlock (r : Heap) (ws : List ℕ) (x : ℕ) (found : Found) : Type 0 where
+pub record IsBlock (r : Heap) (ws : List ℕ) (x : ℕ) (found : LiveRow) : Type 0 where
   pub in_use : found.row < r.rows
   pub there : found.block ≡ nth_row (segments_in r.rows ws) found.row
   pub block : block_at x (blocks_in r.rows ws) ≡ Some found.block
 
 -- What is decided of a call on the block at x by an order: why it is refused, or the block.
-abbrev pub LookedUp : Order Refusal → Heap → List ℕ → ℕ → Result Found Refusal → Type 0
+abbrev pub LookedUp : Order Refusal → Heap → List ℕ → ℕ → Result LiveRow Refusal → Type 0
 LookedUp order r ws x (Err why) = first_reason order ≡ Some why
 LookedUp order r ws x (Ok found) = (first_reason order ≡ None) × IsBlock r ws x found
 

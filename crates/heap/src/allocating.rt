@@ -56,7 +56,8 @@ impl Heap {
     fn check_quotas(self, k: Census, owner: u32, size: u32) -> Result<(), Refusal>
         requires owner { is_owner owner ≡ true }
         requires guards { self.guards ≤ 1 }
-        ensures { (ws : List ℕ) → Examined self ws (Ok k) → result ≡ unless (quota_order (config_of self) (state_in self ws) owner size) (Ok tt) Err }
+        ensures { (ws : List ℕ) → Examined self ws (Ok k) → result
+            ≡ unless (quota_order (config_of self) (state_in self ws) owner size) (Ok tt) Err }
     {
         let i = (owner - 1) as usize;
         if self.block_quotas[i] <= k.blocks[i] {
@@ -74,7 +75,8 @@ impl Heap {
     fn seek(self, table: &[u32], owner: u32, size: u32, align: u32) -> Result<Place, Refusal>
         requires valid { valid self table.now ≡ true }
         requires proper { first_reason (request_order owner size align) ≡ None }
-        ensures { Decided (place_order (config_of self) (state_in self table.now) owner size align) self table.now size align result }
+        ensures { Decided (place_order (config_of self) (state_in self table.now) owner size align)
+            self table.now size align result }
     {
         let rows = RowList::new(table, self.rows as usize);
         let need = granules_with(size, self.guards);
@@ -98,7 +100,8 @@ impl Heap {
         size: u32,
         align: u32,
     ) -> Result<Place, Refusal>
-        ensures { Decided (alloc_order (valid self table.now) (config_of self) (state_in self table.now) arena.now owner size align) self table.now size align result }
+        ensures { Decided (alloc_order (valid self table.now) (config_of self) (state_in self table.now) arena.now owner size align)
+            self table.now size align result }
     {
         let k = self.examine(table)?;
         self.check_guarded_arena(arena)?;
@@ -117,19 +120,21 @@ impl Heap {
         size: u32,
         align: u32,
     ) -> Outcome<u32>
-        ensures answer { result.answer ≡ calls.alloc_aligned (handed self table.old) arena.old owner size align }
-        ensures numbered { value_numbered result.answer ≡ calls.numbered_alloc (handed self table.old) arena.old owner size align }
+        ensures answer { result.answer
+            ≡ calls.alloc_aligned (handed self table.old) arena.old owner size align }
+        ensures numbered { value_numbered result.answer
+            ≡ calls.numbered_alloc (handed self table.old) arena.old owner size align }
 
-        ensures heap { result.heap ≡ (calls.after_alloc_aligned (handed self table.old) arena.old owner size align).heap }
-        ensures table { table.new ≡ (calls.after_alloc_aligned (handed self table.old) arena.old owner size align).words }
-        ensures arena { arena.new ≡ calls.arena_after_alloc_aligned (handed self table.old) arena.old owner size align }
+        ensures heap { result.heap
+            ≡ (calls.after_alloc_aligned (handed self table.old) arena.old owner size align).heap }
+        ensures table { table.new
+            ≡ (calls.after_alloc_aligned (handed self table.old) arena.old owner size align).words }
+        ensures arena { arena.new
+            ≡ calls.arena_after_alloc_aligned (handed self table.old) arena.old owner size align }
     {
         let place = self.find_place(table, arena, owner, size, align);
         match place {
-            Err(why) => Outcome {
-                answer: Err(why),
-                heap: self,
-            },
+            Err(why) => self.refused(why),
             Ok(at) => {
                 let block = new_block(owner, size, at.start, self.guards);
                 let rows = split_row(table, self.rows as usize, at.row, block);
@@ -147,11 +152,13 @@ impl Heap {
     /// order.
     pub fn alloc(self, table: &mut [u32], arena: &mut [u8], owner: u32, size: u32) -> Outcome<u32>
         ensures answer { result.answer ≡ calls.alloc (handed self table.old) arena.old owner size }
-        ensures numbered { value_numbered result.answer ≡ calls.numbered_alloc (handed self table.old) arena.old owner size 16 }
+        ensures numbered { value_numbered result.answer
+            ≡ calls.numbered_alloc (handed self table.old) arena.old owner size 16 }
 
         ensures heap { result.heap ≡ (calls.after_alloc (handed self table.old) arena.old owner size).heap }
         ensures table { table.new ≡ (calls.after_alloc (handed self table.old) arena.old owner size).words }
-        ensures arena { arena.new ≡ calls.arena_after_alloc_aligned (handed self table.old) arena.old owner size 16 }
+        ensures arena { arena.new
+            ≡ calls.arena_after_alloc_aligned (handed self table.old) arena.old owner size 16 }
     {
         self.alloc_aligned(table, arena, owner, size, 16)
     }

@@ -13,7 +13,8 @@ impl Heap {
     /// The bytes requested and the bytes held of the block of `owner` at byte `offset`. Refused with 1, 2, 15, 16, 17, 9, 10, in this order.
     pub fn block_size(self, table: &[u32], owner: u32, offset: u32) -> Result<BlockSize, Refusal>
         ensures answer { result ≡ calls.block_size (handed self table.now) owner offset }
-        ensures numbered { size_numbered result ≡ calls.numbered_block_size (handed self table.now) owner offset }
+        ensures numbered { size_numbered result
+            ≡ calls.numbered_block_size (handed self table.now) owner offset }
     {
         self.examine(table)?;
         let block = self.find_owned(table, owner, offset)?.block;

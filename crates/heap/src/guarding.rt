@@ -18,7 +18,7 @@ fn guard_offset(block: Segment) -> usize
 }
 
 impl Heap {
-    /// The arena has the length recorded.
+    /// Whether the arena has the length recorded.
     fn has_recorded_length(self, arena: &[u8]) -> bool
         ensures { result ≡ has_recorded_length (config_of self) arena.now }
     {
@@ -56,7 +56,7 @@ impl Heap {
         }
     }
 
-    /// A byte of a block's guard differs from 0x77. A heap without guards does not look at the arena.
+    /// Whether a byte of a block's guard differs from 0x77. A heap without guards does not look at the arena.
     pub(crate) fn is_broken(self, arena: &[u8], block: Segment) -> bool
         requires few { self.guards ≤ 1 }
         requires inside { 1 ≤ self.guards → guard_offset block + guard_bytes (config_of self) ≤ length arena.now }

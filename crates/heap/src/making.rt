@@ -12,7 +12,8 @@ use segments::{fill, reset};
 
 /// Decides a making, by the lengths of the arena and the table, and the plan: 11, 18, 12, 13, or that it is done.
 fn check_init(bytes: usize, words: usize, plan: Plan) -> Result<(), InitRefusal>
-    ensures { (arena table : List ℕ) → length arena ≡ bytes → length table ≡ words → result ≡ rules.init arena table plan }
+    ensures { (arena table : List ℕ) → length arena ≡ bytes → length table ≡ words
+        → result ≡ rules.init arena table plan }
 {
     if !is_arena(bytes) {
         return Err(InitRefusal::ArenaLength);

@@ -6,21 +6,21 @@ ghost use Rattle.heap.specs.Stored.{config_of};
 
 use crate::record::Heap;
 
-/// The eight quotas are at most so much.
+/// Whether the eight quotas are at most so much.
 fn are_quotas(quotas: &[u32; 8], most: u32) -> bool
     ensures { result ≡ are_quotas most quotas.now }
 {
     quotas.iter().all(|&quota| quota <= most)
 }
 
-/// All sixteen quotas are in their ranges.
+/// Whether all sixteen quotas are in their ranges.
 pub(crate) fn quotas_in_range(granules: [u32; 8], blocks: [u32; 8]) -> bool
     ensures { result ≡ quotas_in_range granules blocks }
 {
     are_quotas(&granules, 65536) && are_quotas(&blocks, 256)
 }
 
-/// An arena of so many granules may start at the address `base`. The sum is taken in 64 bits, so that it does not wrap at the top of the address space.
+/// Whether an arena of so many granules may start at the address `base`. The sum is taken in 64 bits, so that it does not wrap at the top of the address space.
 pub(crate) fn is_base(granules: u32, base: u32) -> bool
     ensures { result ≡ is_base (16 * granules) base }
 {
@@ -28,7 +28,7 @@ pub(crate) fn is_base(granules: u32, base: u32) -> bool
     base % 16 == 0 && end <= 4294967296
 }
 
-/// The number is in a range, and a multiple of the step.
+/// Whether the number is in a range, and a multiple of the step.
 fn in_steps(n: usize, least: usize, most: usize, step: usize) -> bool
     requires { 1 ≤ step }
     ensures { result ≡ (within least most n && eqb (n % step) 0) }
@@ -36,28 +36,28 @@ fn in_steps(n: usize, least: usize, most: usize, step: usize) -> bool
     (least..=most).contains(&n) && n % step == 0
 }
 
-/// The length is an arena's.
+/// Whether the length is an arena's.
 pub(crate) fn is_arena(bytes: usize) -> bool
     ensures { result ≡ is_arena bytes }
 {
     in_steps(bytes, 16, 1048576, 16)
 }
 
-/// The length is a table's.
+/// Whether the length is a table's.
 pub(crate) fn is_table(words: usize) -> bool
     ensures { result ≡ is_table words }
 {
     in_steps(words, 4, 2048, 4)
 }
 
-/// The number is an owner's.
+/// Whether the number is an owner's: 1 to 8.
 pub fn is_owner(owner: u32) -> bool
     ensures { result ≡ is_owner owner }
 {
     (1..=8).contains(&owner)
 }
 
-/// The number is an alignment.
+/// Whether the number is an alignment.
 pub(crate) fn is_alignment(align: u32) -> bool
     ensures { result ≡ is_alignment align }
 {
@@ -65,7 +65,7 @@ pub(crate) fn is_alignment(align: u32) -> bool
 }
 
 impl Heap {
-    /// What the record says that its heap was made with is in range: the quotas, the base, a guard's granules, and the granules and the table's rows before
+    /// Whether what the record says that its heap was made with is in range: the quotas, the base, a guard's granules, and the granules and the table's rows before
     /// a product is taken of them.
     pub(crate) fn in_range(self) -> bool
         ensures { result ≡ in_range (config_of self) }

@@ -1,6 +1,6 @@
 //! The heap's record, and what a call that may change it gives back.
 
-ghost use Rattle.std.specs.Prelude.{◌≡◌, ◌≤◌};
+ghost use Rattle.std.specs.Prelude.{◌≡◌, ◌≤◌, Err};
 ghost use Rattle.heap.specs.Calls.{zero_heap};
 ghost use Rattle.heap.specs.Steps.{updated_of};
 
@@ -55,7 +55,18 @@ impl Heap {
         }
     }
 
-    /// The record with other rows in use and other granules used.
+    /// A call's refusal: the record stays as it is.
+    pub(crate) fn refused<T>(self, why: Refusal) -> Outcome<T>
+        ensures answer { result.answer ≡ Err why }
+        ensures heap { result.heap ≡ self }
+    {
+        Outcome {
+            answer: Err(why),
+            heap: self,
+        }
+    }
+
+    /// The record with other rows in use and other granules used; the peak is raised to those if they are more.
     pub(crate) fn updated(self, rows: usize, used: u32) -> Heap
         requires { rows ≤ 4294967295 }
         ensures { result ≡ updated_of self rows used }

@@ -12,7 +12,7 @@ ghost use Rattle.heap.specs.Calls as calls;
 ghost use Rattle.heap.specs.Steps.{Examined, IsBlock, ResizeDecided};
 
 use crate::allocating::{exceeds, new_block};
-use crate::freeing::Found;
+use crate::finding::LiveRow;
 use crate::record::{Heap, Outcome};
 use model::{Refusal, Resized, Segment, granules_with};
 use segments::{Census, RowList, move_bytes, replace_row};
@@ -20,7 +20,7 @@ use segments::{Census, RowList, move_bytes, replace_row};
 /// A block that is resized, and where it is to begin.
 #[derive(Clone, Copy, Debug, PartialEq, Eq)]
 pub(crate) struct Refitted {
-    pub old: Found,
+    pub old: LiveRow,
     pub start: u32,
 }
 
@@ -29,7 +29,7 @@ impl Heap {
     fn seek_refit(
         self,
         table: &[u32],
-        old: Found,
+        old: LiveRow,
         owner: u32,
         size: u32,
     ) -> Result<Refitted, Refusal>
@@ -37,7 +37,9 @@ impl Heap {
         requires owner { is_owner owner ≡ true }
         requires size { 1 ≤ size }
         requires old { (x : ℕ) × IsBlock self table.now x old }
-        ensures { (x : ℕ) → IsBlock self table.now x old → ResizeDecided (replace_order (config_of self) (state_in self table.now) owner x size) self table.now owner x size result }
+        ensures { (x : ℕ) → IsBlock self table.now x old
+            → ResizeDecided (replace_order (config_of self) (state_in self table.now) owner x size)
+            self table.now owner x size result }
     {
         let rows = RowList::new(table, self.rows as usize);
         let need = granules_with(size, self.guards);
@@ -56,7 +58,7 @@ impl Heap {
         self,
         k: Census,
         table: &[u32],
-        old: Found,
+        old: LiveRow,
         owner: u32,
         size: u32,
     ) -> Result<Refitted, Refusal>
@@ -65,7 +67,9 @@ impl Heap {
         requires size { 1 ≤ size }
         requires old { (x : ℕ) × IsBlock self table.now x old }
         requires owned { old.block.owner ≡ owner }
-        ensures { (x : ℕ) → IsBlock self table.now x old → ResizeDecided (new_length_order (config_of self) (state_in self table.now) owner x size) self table.now owner x size result }
+        ensures { (x : ℕ) → IsBlock self table.now x old
+            → ResizeDecided (new_length_order (config_of self) (state_in self table.now) owner x size)
+            self table.now owner x size result }
     {
         let i = (owner - 1) as usize;
         let others = k.held[i] - old.block.length;
@@ -89,7 +93,8 @@ impl Heap {
         size: u32,
     ) -> Result<Refitted, Refusal>
         requires { 1 ≤ size }
-        ensures { ResizeDecided (realloc_order (valid self table.now) (config_of self) (state_in self table.now) arena.now owner offset size) self table.now owner offset size result }
+        ensures { ResizeDecided (realloc_order (valid self table.now) (config_of self) (state_in self table.now) arena.now owner offset size)
+            self table.now owner offset size result }
     {
         let k = self.examine(table)?;
         let old = self.find_block(table, arena, owner, offset)?;
@@ -103,8 +108,11 @@ impl Heap {
         requires new_guard { 1 ≤ self.guards → guard_offset new + guard_bytes (config_of self) ≤ length arena.old }
         requires old { offset old + bytes old ≤ length arena.old }
         requires new { offset new + bytes new ≤ length arena.old }
-        requires apart { (eqb (offset old) (offset new) || (leb (bytes old) (bytes new) && disjoint (offset old) (bytes old) (offset new) (bytes new))) ≡ true }
-        ensures { arena.new ≡ with_guard (config_of self) new (moved (offset old) (bytes old) (offset new) (bytes new) (without_guard (config_of self) old arena.old)) }
+        requires apart { (eqb (offset old) (offset new)
+            || (leb (bytes old) (bytes new) && disjoint (offset old) (bytes old) (offset new) (bytes new))) ≡ true }
+        ensures { arena.new
+            ≡ with_guard (config_of self) new
+            (moved (offset old) (bytes old) (offset new) (bytes new) (without_guard (config_of self) old arena.old)) }
     {
         let from = 16 * (old.start as usize);
         let held = 16 * (old.length as usize);
@@ -128,11 +136,15 @@ impl Heap {
         size: u32,
     ) -> Outcome<Resized>
         ensures answer { result.answer ≡ calls.realloc (handed self table.old) arena.old owner offset size }
-        ensures numbered { resized_numbered result.answer ≡ calls.numbered_realloc (handed self table.old) arena.old owner offset size }
+        ensures numbered { resized_numbered result.answer
+            ≡ calls.numbered_realloc (handed self table.old) arena.old owner offset size }
 
-        ensures heap { result.heap ≡ (calls.after_realloc (handed self table.old) arena.old owner offset size).heap }
-        ensures table { table.new ≡ (calls.after_realloc (handed self table.old) arena.old owner offset size).words }
-        ensures arena { arena.new ≡ calls.arena_after_realloc (handed self table.old) arena.old owner offset size }
+        ensures heap { result.heap
+            ≡ (calls.after_realloc (handed self table.old) arena.old owner offset size).heap }
+        ensures table { table.new
+            ≡ (calls.after_realloc (handed self table.old) arena.old owner offset size).words }
+        ensures arena { arena.new
+            ≡ calls.arena_after_realloc (handed self table.old) arena.old owner offset size }
     {
         if size == 0 {
             let out = self.free(table, arena, owner, offset);
@@ -143,10 +155,7 @@ impl Heap {
         }
         let refitted = self.find_resize(table, arena, owner, offset, size);
         match refitted {
-            Err(why) => Outcome {
-                answer: Err(why),
-                heap: self,
-            },
+            Err(why) => self.refused(why),
             Ok(refitted) => {
                 let old = refitted.old.block;
                 let new = new_block(owner, size, refitted.start, self.guards);

@@ -9,7 +9,7 @@ use crate::record::Heap;
 use model::Refusal;
 use segments::{Census, RowList, zero_from};
 
-/// No owner's figure exceeds its quota.
+/// Whether no owner's figure exceeds its quota.
 fn keeps(figures: [u32; 8], quotas: [u32; 8]) -> bool
     ensures { result ≡ keeps_all figures quotas }
 {
@@ -20,7 +20,7 @@ fn keeps(figures: [u32; 8], quotas: [u32; 8]) -> bool
 }
 
 impl Heap {
-    /// The conditions of a valid heap that need no look at a row.
+    /// Whether the conditions of a valid heap hold that need no look at a row.
     fn is_framed(self, table: &[u32]) -> bool
         ensures { result ≡ framed self table.now }
     {
@@ -29,21 +29,21 @@ impl Heap {
             && (1..=self.capacity).contains(&self.rows)
     }
 
-    /// The peak is from used to the arena's granules.
+    /// Whether the peak is from used to the arena's granules.
     fn has_peak(self) -> bool
         ensures { result ≡ within self.used self.granules self.peak }
     {
         (self.used..=self.granules).contains(&self.peak)
     }
 
-    /// No owner has more blocks or granules than its quotas.
+    /// Whether no owner has more blocks or granules than its quotas.
     fn keeps_quotas(self, k: Census) -> bool
         ensures { result ≡ keeps_all k.blocks self.block_quotas && keeps_all k.held self.granule_quotas }
     {
         keeps(k.blocks, self.block_quotas) && keeps(k.held, self.granule_quotas)
     }
 
-    /// The conditions of a valid heap that are left when its rows are a map with these figures.
+    /// Whether the conditions of a valid heap hold that are left when its rows are a map with these figures.
     fn agrees(self, table: &[u32], k: Census) -> bool
         ensures { result ≡ agrees_with self table.now k }
     {
@@ -70,7 +70,7 @@ impl Heap {
         Ok(k)
     }
 
-    /// The record and the table are a valid heap.
+    /// Whether the record and the table are a valid heap.
     pub fn is_valid(self, table: &[u32]) -> bool
         ensures { result ≡ valid self table.now }
     {
