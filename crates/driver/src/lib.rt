@@ -16,6 +16,7 @@ use heap::Heap;
 use model::{BlockSize, Holding, Refusal, Resized, Totals};
 
 /// The record for the core, built of the fields of the one that is lent.
+// Field by field: a rule of the project, by which this layer takes the record apart.
 fn record_of(heap: &Heap) -> Heap
     ensures { result ≡ heap.now }
 {

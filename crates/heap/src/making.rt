@@ -50,6 +50,7 @@ impl Heap {
                 heap: Heap::zero(),
             };
         }
+        // The casts are proved to fit; a `try_from` would want a refusal that cannot come. An array of a struct is named before it is stored in another.
         let granules = (bytes / 16) as u32;
         let granule_quotas = plan.granule_quotas;
         let block_quotas = plan.block_quotas;

@@ -72,6 +72,7 @@ impl Heap {
         ensures { result ≡ updated_of self rows used }
     {
         Heap {
+            // Proved to fit, so there is no refusal for a `try_from` to give.
             rows: rows as u32,
             used,
             peak: self.peak.max(used),

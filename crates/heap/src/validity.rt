@@ -9,6 +9,7 @@ use crate::record::Heap;
 use model::Refusal;
 use segments::{Census, RowList, zero_from};
 
+// Not one with `are_quotas`: there one number bounds all eight, here each has its own.
 /// Whether no owner's figure exceeds its quota.
 fn keeps(figures: [u32; 8], quotas: [u32; 8]) -> bool
     ensures { result ≡ keeps_all figures quotas }

@@ -4,6 +4,7 @@ ghost use Rattle.std.specs.Prelude.{◌≡◌, ◌+◌, ◌≤◌, true, ◌&&�
 ghost use Rattle.std.specs.List.{list_all};
 ghost use Rattle.model.specs.Arena.{written, slice, disjoint, moved};
 
+// A run is named by its first byte and its length, as `written` and `slice` name it, and not by a part of the slice: two runs of one arena are spoken of.
 /// A run of bytes set to one value.
 pub fn fill(bytes: &mut [u8], from: usize, count: usize, value: u8)
     requires { from + count ≤ length bytes.old }

@@ -10,6 +10,7 @@ use model::{Segment, granules_with};
 
 /// The figures of the rows counted: the granule where they end, and whether the last of them is free, which only the pass needs; the granules of the live
 /// blocks and of the longest free run; and for each of owners 1 to 8 the number of its live blocks, and their granules.
+// Two arrays and not one of pairs: each is compared with the quotas of its kind.
 #[derive(Clone, Copy, Debug, PartialEq, Eq)]
 pub struct Census {
     pub end: u32,

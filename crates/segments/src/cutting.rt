@@ -9,6 +9,7 @@ use crate::editing::insert_row;
 use crate::row_words::{free_run, put_row, row};
 use model::Segment;
 
+// An `if`, as `gap` has it: a number made of the test by `usize::from` would say no more.
 // How many rows the granules from `from` up to `to` take: one if there are any.
 fn gap_rows(from: u32, to: u32) -> usize
     ensures answer { result ≡ length (gap from to) }

@@ -46,7 +46,7 @@ impl<'a> RowList<'a> {
         }
     }
 
-    // Where that run ends.
+    // Where that run ends. Not one with `run_from`: one looks at the row before, the other at the row after if that is in use.
     fn run_to(&self, i: usize) -> u32
         requires in_use { i < length self.now }
         requires map { IsMapWithin 4294967295 self.now }

@@ -6,6 +6,7 @@ ghost use Rattle.segments.specs.Rows.{segment_at, with_row};
 
 use model::Segment;
 
+// By hand: a table is a lent slice of words, four to a row, which no derive or `From` makes a struct of.
 /// The segment in row i.
 pub fn row(table: &[u32], i: usize) -> Segment
     requires { 4 * i + 4 ≤ length table.now }

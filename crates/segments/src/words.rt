@@ -7,6 +7,7 @@ ghost use Rattle.segments.specs.Rows.{words_of};
 
 use crate::row_words::{free_run, put_row};
 
+// Not one with `is_filled`: words and not bytes, and any place, past the end too.
 /// Whether the words from a place on are all zero; past the end there are none.
 pub fn zero_from(table: &[u32], from: usize) -> bool
     ensures { result ≡ list_all (nat_eq 0) (drop from table.now) }
