@@ -48,7 +48,7 @@ impl<'a, R: Print> Counter<'a, R> {
         })
     }
 
-    // Written out in each program: a function of the steps and of what carries one out would be no shorter.
+    // Written out in each program: a function that is handed `carry_out` would need a `requires` that the closure can be called at each step.
     fn run(&mut self, steps: &[Step]) -> io::Result<()> {
         for &step in steps {
             self.carry_out(step)?;
@@ -56,6 +56,7 @@ impl<'a, R: Print> Counter<'a, R> {
         Ok(())
     }
 
+    // One arm for each kind of step: tables of steps are constants, and a constant holds no closures.
     fn carry_out(&mut self, step: Step) -> io::Result<()> {
         match step {
             Step::By(task, call) => {

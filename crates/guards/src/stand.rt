@@ -61,7 +61,7 @@ impl<'r, 'a, R: Print> Stand<'r, 'a, R> {
     }
 
     /// Carries the steps out, one after the other.
-    // Written out in each program: a function of the steps and of what carries one out would be no shorter.
+    // Written out in each program: a function that is handed `carry_out` would need a `requires` that the closure can be called at each step.
     pub(crate) fn run(&mut self, steps: &[Step]) -> io::Result<()> {
         for &step in steps {
             self.carry_out(step)?;
@@ -69,6 +69,7 @@ impl<'r, 'a, R: Print> Stand<'r, 'a, R> {
         Ok(())
     }
 
+    // One arm for each kind of step: tables of steps are constants, and a constant holds no closures.
     fn carry_out(&mut self, step: Step) -> io::Result<()> {
         let rt = self.rt;
         match step {
