@@ -6,9 +6,9 @@ use std::fmt;
 
 /// A call's answer as it is printed: an offset with the address that it is at, base plus offset.
 #[derive(Clone, Copy, Debug, PartialEq, Eq)]
-pub struct Addressed {
-    pub base: u32,
-    pub answer: Result<Granted, Refusal>,
+pub(crate) struct Addressed {
+    pub(crate) base: u32,
+    pub(crate) answer: Result<Granted, Refusal>,
 }
 
 impl fmt::Display for Addressed {

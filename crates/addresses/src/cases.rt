@@ -4,7 +4,7 @@ use crate::stand::Step::{self, Base, Of, Rows, Totals};
 use printing::Call::{Alloc, AllocAligned, BlockSize, Free, Holding, Realloc};
 
 /// The last is lent a granule that was skipped for alignment.
-pub const SAME_ALLOCS: [Step; 6] = [
+pub(crate) const SAME_ALLOCS: [Step; 6] = [
     Of(AllocAligned { size: 16, on: 32 }),
     Of(AllocAligned { size: 100, on: 64 }),
     Of(AllocAligned { size: 17, on: 4096 }),
@@ -14,7 +14,7 @@ pub const SAME_ALLOCS: [Step; 6] = [
 ];
 
 /// Holes of 3 granules at 64 and at 176. The first boundary is at a hole's start, in it with too little room, in it with just enough, and past it.
-pub const TWO_HOLES: [Step; 10] = [
+pub(crate) const TWO_HOLES: [Step; 10] = [
     Of(Alloc { size: 64 }),
     Of(Alloc { size: 48 }),
     Of(Alloc { size: 64 }),
@@ -28,7 +28,7 @@ pub const TWO_HOLES: [Step; 10] = [
 ];
 
 /// The only boundary of 4,096 is the end; the only one of 2,048 before the end is at 2,032.
-pub const TOP_UNEVEN: [Step; 5] = [
+pub(crate) const TOP_UNEVEN: [Step; 5] = [
     Of(AllocAligned { size: 16, on: 4096 }),
     Of(AllocAligned {
         size: 2049,
@@ -43,7 +43,7 @@ pub const TOP_UNEVEN: [Step; 5] = [
 ];
 
 /// The last granule of the address space is on 16 only.
-pub const TOP: [Step; 4] = [
+pub(crate) const TOP: [Step; 4] = [
     Of(AllocAligned {
         size: 4080,
         on: 4096,
@@ -54,13 +54,13 @@ pub const TOP: [Step; 4] = [
 ];
 
 /// The last granule of the address space is on 16 only.
-pub const LAST_GRANULE: [Step; 2] = [
+pub(crate) const LAST_GRANULE: [Step; 2] = [
     Of(AllocAligned { size: 16, on: 32 }),
     Of(AllocAligned { size: 16, on: 16 }),
 ];
 
 /// Two moves, a growth to the arena's end, and a shortening.
-pub const RESIZES: [Step; 9] = [
+pub(crate) const RESIZES: [Step; 9] = [
     Of(Alloc { size: 32 }),
     Of(Alloc { size: 48 }),
     Of(Realloc { at: 0, to: 48 }),
@@ -74,7 +74,7 @@ pub const RESIZES: [Step; 9] = [
 
 /// The first is granted; then the base is 8 more, and then the arena ends 16 and 240 bytes past 4,294,967,296. At last it ends just there, and the
 /// base is that of the making.
-pub const RECORD_BASE: [Step; 26] = [
+pub(crate) const RECORD_BASE: [Step; 26] = [
     Of(Alloc { size: 40 }),
     Base(536870936),
     Of(AllocAligned { size: 16, on: 64 }),
@@ -103,8 +103,8 @@ pub const RECORD_BASE: [Step; 26] = [
     Of(AllocAligned { size: 16, on: 64 }),
 ];
 
-/// The block that was lent on 64 moves to an address on 16.
-pub const DRIVERS_LAYER: [Step; 7] = [
+/// A case of its own, though all cases' calls go through the drivers' layer. The block that was lent on 64 moves to an address on 16.
+pub(crate) const DRIVERS_LAYER: [Step; 7] = [
     Of(AllocAligned { size: 40, on: 64 }),
     Of(AllocAligned { size: 48, on: 16 }),
     Of(AllocAligned { size: 16, on: 128 }),

@@ -12,7 +12,7 @@ const TWO_ON_32: Step = Of(AllocAligned { size: 32, on: 32 });
 const THREE_ON_32: Step = Of(AllocAligned { size: 48, on: 32 });
 
 /// Base 16 needs a gap at the arena's start, base 0 does not.
-pub fn at_start(rt: &impl Print) -> io::Result<()> {
+pub(crate) fn at_start(rt: &impl Print) -> io::Result<()> {
     let mut two = [0; 8];
     let mut three = [0; 12];
     let mut arena = [0; 64];
@@ -22,7 +22,7 @@ pub fn at_start(rt: &impl Print) -> io::Result<()> {
 }
 
 /// Base 0 needs a gap after the first granule, base 16 does not.
-pub fn after_block(rt: &impl Print) -> io::Result<()> {
+pub(crate) fn after_block(rt: &impl Print) -> io::Result<()> {
     let mut three = [0; 12];
     let mut four = [0; 16];
     let mut arena = [0; 80];

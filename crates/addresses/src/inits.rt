@@ -7,7 +7,7 @@ use printing::Call::Alloc;
 use std::io;
 
 /// A base that is no multiple of 16, or an arena that ends past 4,294,967,296.
-pub fn bases(rt: &impl Print) -> io::Result<()> {
+pub(crate) fn bases(rt: &impl Print) -> io::Result<()> {
     remainders(rt)?;
     ends(rt)
 }
@@ -38,7 +38,7 @@ fn ends(rt: &impl Print) -> io::Result<()> {
 }
 
 /// 11, 18, 12 and 13 in their order: 24 bytes are no arena, 6 words are no table, and 257 blocks are one more than a quota may be.
-pub fn order(rt: &impl Print) -> io::Result<()> {
+pub(crate) fn order(rt: &impl Print) -> io::Result<()> {
     before_table(rt)?;
     before_quota(rt)
 }
@@ -75,7 +75,7 @@ fn init_257(rt: &impl Print, arena: &mut [u8], table: &mut [u32], base: u32) -> 
 }
 
 /// A refused making leaves the table and the arena, and the heap of before goes on with its own record.
-pub fn refused(rt: &impl Print) -> io::Result<()> {
+pub(crate) fn refused(rt: &impl Print) -> io::Result<()> {
     let mut table = [0; 32];
     let mut arena = [0; 256];
     let mut stand = Stand::init(rt, &mut arena, &mut table, 16)?;
@@ -98,7 +98,7 @@ pub fn refused(rt: &impl Print) -> io::Result<()> {
     before.run(&[Of(Alloc { size: 16 })])
 }
 
-// The record, without its quotas.
+// The record, without its quotas. Not shared with `guards`, which prints other fields of it.
 fn print_record(rt: &impl Print, heap: Heap) -> io::Result<()> {
     let Heap {
         capacity,

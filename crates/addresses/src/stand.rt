@@ -3,12 +3,13 @@
 use crate::addressed::Addressed;
 use heap::Heap;
 use model::Plan;
-use printing::{Call, Granted, Making, Rows, Shown, carry_out};
+use printing::{Call, Making, Rows, Shown, carry_out, totals};
 use std::io;
 
 /// One step of a case. All calls are owner 1's.
 #[derive(Clone, Copy, Debug, PartialEq, Eq)]
-pub enum Step {
+pub(crate) enum Step {
+    /// A call.
     Of(Call),
     /// Another base in the record.
     Base(u32),
@@ -19,17 +20,18 @@ pub enum Step {
 }
 
 /// A heap whose calls are printed with their answers.
+// Not shared with the other programs: each has its own steps and quotas, and memory of its own or lent. A shared one would be handed all of that.
 #[derive(Drop)]
-pub struct Stand<'r, 'a, R> {
-    pub rt: &'r R,
-    pub heap: Heap,
-    pub table: &'a mut [u32],
-    pub arena: &'a mut [u8],
+pub(crate) struct Stand<'r, 'a, R> {
+    pub(crate) rt: &'r R,
+    pub(crate) heap: Heap,
+    pub(crate) table: &'a mut [u32],
+    pub(crate) arena: &'a mut [u8],
 }
 
 impl<'r, 'a, R: Print> Stand<'r, 'a, R> {
     /// Makes the heap. Its owner 1 has the largest quotas there are, so refusals 5 and 6 never apply.
-    pub fn init(
+    pub(crate) fn init(
         rt: &'r R,
         arena: &'a mut [u8],
         table: &'a mut [u32],
@@ -45,14 +47,15 @@ impl<'r, 'a, R: Print> Stand<'r, 'a, R> {
     }
 
     /// Carries the steps out, one after the other.
-    // Written out in each program: a function of the steps and of what carries one out would be no shorter.
-    pub fn run(&mut self, steps: &[Step]) -> io::Result<()> {
+    // Written out in each program: a function that is handed `carry_out` would need a `requires` that the closure can be called at each step.
+    pub(crate) fn run(&mut self, steps: &[Step]) -> io::Result<()> {
         for &step in steps {
             self.carry_out(step)?;
         }
         Ok(())
     }
 
+    // One arm for each kind of step: tables of steps are constants, and a constant holds no closures.
     fn carry_out(&mut self, step: Step) -> io::Result<()> {
         match step {
             Step::Of(call) => self.call(call),
@@ -72,21 +75,19 @@ impl<'r, 'a, R: Print> Stand<'r, 'a, R> {
         println!(rt; "owner 1 {call}: {}", Addressed { base, answer })
     }
 
-    // These print what this stand keeps; shared with another program they would have to be handed all of it.
+    // In each program, by `&self`: in `carry_out`, by `&mut self`, the check has no rule yet for the loans of record and table together.
     fn print_rows(&self) -> io::Result<()> {
-        let in_use = self.heap.rows;
-        let table = &*self.table;
-        println!(self.rt; "{}", Rows { in_use, table })
+        println!(self.rt; "{}", Rows(&self.heap, self.table))
     }
 
     fn print_totals(&self) -> io::Result<()> {
-        let totals = driver::totals(&self.heap, self.table);
-        println!(self.rt; "totals: {}", Shown(totals.map(Granted::Totals)))
+        println!(self.rt; "totals: {}", Shown(totals(&self.heap, self.table)))
     }
 }
 
 /// Makes a heap of whatever arena and table are lent; owner 1 may have so many blocks.
-pub fn init(
+// Not shared with the other programs: the quotas, the sizes and the printed line are its own, and a shared one would be handed them all.
+pub(crate) fn init(
     rt: &impl Print,
     arena: &mut [u8],
     table: &mut [u32],
@@ -111,7 +112,7 @@ pub fn init(
 }
 
 /// Carries the steps of a case out on a heap made of what is lent.
-pub fn run(
+pub(crate) fn run(
     rt: &impl Print,
     arena: &mut [u8],
     table: &mut [u32],

@@ -5,7 +5,7 @@ use crate::step::Task::{Checkout, Modem};
 use printing::Call::{Alloc, AllocAligned, BlockSize, Free, Holding, Realloc};
 
 /// The modem's boundary leaves two granules free, and the next block that fits goes there.
-pub const MORNING: [Step; 7] = [
+pub(crate) const MORNING: [Step; 7] = [
     By(Checkout(1), Alloc { size: 40 }),
     By(Checkout(2), Alloc { size: 100 }),
     By(Modem, AllocAligned { size: 64, on: 64 }),
@@ -16,7 +16,7 @@ pub const MORNING: [Step; 7] = [
 ];
 
 /// A second free of one block is refused while its place is free, and while it is another's.
-pub const NOON: [Step; 4] = [
+pub(crate) const NOON: [Step; 4] = [
     By(Checkout(1), Free { at: 0 }),
     By(Checkout(1), Free { at: 0 }),
     By(Checkout(2), Alloc { size: 48 }),
@@ -24,7 +24,7 @@ pub const NOON: [Step; 4] = [
 ];
 
 /// The block quota, an alignment with no place left, a hole too short, and an offset that is no multiple of 16.
-pub const EVENING: [Step; 8] = [
+pub(crate) const EVENING: [Step; 8] = [
     By(Checkout(1), Alloc { size: 33 }),
     By(Checkout(1), Alloc { size: 80 }),
     By(Checkout(1), Alloc { size: 1 }),
@@ -36,7 +36,7 @@ pub const EVENING: [Step; 8] = [
 ];
 
 /// Each kind of bad offset has its own number: the arena's end and its last granule, a hole, and a block after its first granule.
-pub const BAD_FREES: [Step; 6] = [
+pub(crate) const BAD_FREES: [Step; 6] = [
     By(Modem, Free { at: 512 }),
     By(Modem, Free { at: 511 }),
     By(Modem, Free { at: 496 }),
@@ -46,7 +46,7 @@ pub const BAD_FREES: [Step; 6] = [
 ];
 
 /// The same for enquiries: a byte past the end, a block's second byte, a hole, a block's second granule, and its first for its owner and for another.
-pub const SIZES: [Step; 6] = [
+pub(crate) const SIZES: [Step; 6] = [
     By(Checkout(1), BlockSize { at: 513 }),
     By(Checkout(1), BlockSize { at: 161 }),
     By(Checkout(1), BlockSize { at: 192 }),
@@ -58,7 +58,7 @@ pub const SIZES: [Step; 6] = [
 /// To size 0 a resize is a free. A longer block takes the run at its right, so that the next one of checkout 2 goes behind it; with no room there it
 /// goes to another place, and the byte that the modem wrote goes along. The old place is free and zero then, and a shorter block's tail is. 6 counts
 /// the new length in place of the old, and the peak never both places.
-pub const RESIZES: [Step; 13] = [
+pub(crate) const RESIZES: [Step; 13] = [
     By(Modem, Realloc { at: 384, to: 0 }),
     By(Modem, Alloc { size: 40 }),
     By(Modem, Realloc { at: 48, to: 112 }),
@@ -75,7 +75,7 @@ pub const RESIZES: [Step; 13] = [
 ];
 
 /// What the three tasks hold adds up to what is used.
-pub const CLOSING: [Step; 4] = [
+pub(crate) const CLOSING: [Step; 4] = [
     By(Checkout(1), Holding),
     By(Checkout(2), Holding),
     By(Modem, Holding),

@@ -8,11 +8,12 @@ mod step;
 
 use heap::Heap;
 use model::{Plan, Refusal, Resized};
-use printing::{Granted, Making, Shown, carry_out, write};
+use printing::{Granted, Making, Shown, carry_out, totals, write};
 use std::io;
 use step::Step;
 
 /// The counter's heap: the record, which is lent to each call, and the table and the arena that are lent with it.
+// Not shared with the other programs: each has its own steps and quotas, and memory of its own or lent. A shared one would be handed all of that.
 #[derive(Drop)]
 struct Counter<'a, R> {
     rt: &'a R,
@@ -23,6 +24,7 @@ struct Counter<'a, R> {
 
 impl<'a, R: Print> Counter<'a, R> {
     // 17 rows of 4 words. The quotas are 10 granules and 3 blocks for each checkout task, 8 granules and 2 blocks for the modem.
+    // Not shared with the other programs: the quotas, the sizes and the printed line are its own, and a shared one would be handed them all.
     fn init(rt: &'a R) -> io::Result<Counter<'a, R>> {
         let mut table = [0; 68];
         let mut arena = [0; 512];
@@ -46,7 +48,7 @@ impl<'a, R: Print> Counter<'a, R> {
         })
     }
 
-    // Written out in each program: a function of the steps and of what carries one out would be no shorter.
+    // Written out in each program: a function that is handed `carry_out` would need a `requires` that the closure can be called at each step.
     fn run(&mut self, steps: &[Step]) -> io::Result<()> {
         for &step in steps {
             self.carry_out(step)?;
@@ -54,6 +56,7 @@ impl<'a, R: Print> Counter<'a, R> {
         Ok(())
     }
 
+    // One arm for each kind of step: tables of steps are constants, and a constant holds no closures.
     fn carry_out(&mut self, step: Step) -> io::Result<()> {
         match step {
             Step::By(task, call) => {
@@ -64,11 +67,10 @@ impl<'a, R: Print> Counter<'a, R> {
                     task.owner(),
                     call,
                 );
-                println!(self.rt; "{task} {call}: {}", Shown(as_returned(answer)))
+                println!(self.rt; "{task} {call}: {}", Shown(as_freed(answer)))
             }
             Step::Totals => {
-                let totals = driver::totals(&self.heap, &self.table);
-                println!(self.rt; "totals: {}", Shown(totals.map(Granted::Totals)))
+                println!(self.rt; "totals: {}", Shown(totals(&self.heap, &self.table)))
             }
             Step::Write(value, at) => {
                 write(&mut self.arena, 1, value, at);
@@ -83,9 +85,9 @@ impl<'a, R: Print> Counter<'a, R> {
 }
 
 // The bytes that a resize to size 0 gives back are printed as those that a free gives back.
-fn as_returned(answer: Result<Granted, Refusal>) -> Result<Granted, Refusal> {
+fn as_freed(answer: Result<Granted, Refusal>) -> Result<Granted, Refusal> {
     match answer {
-        Ok(Granted::Resized(Resized::Freed(bytes))) => Ok(Granted::Bytes(bytes)),
+        Ok(Granted::Resized(Resized::Freed(bytes))) => Ok(Granted::Freed(bytes)),
         other => other,
     }
 }

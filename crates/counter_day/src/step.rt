@@ -5,7 +5,7 @@ use std::fmt;
 
 /// A task at the counter.
 #[derive(Clone, Copy, Debug, PartialEq, Eq)]
-pub enum Task {
+pub(crate) enum Task {
     /// A checkout task, by its number, which is its owner's.
     Checkout(u32),
     Modem,
@@ -13,7 +13,7 @@ pub enum Task {
 
 impl Task {
     /// The number under which the task borrows.
-    pub fn owner(self) -> u32 {
+    pub(crate) fn owner(self) -> u32 {
         match self {
             Task::Checkout(number) => number,
             Task::Modem => 3,
@@ -32,12 +32,12 @@ impl fmt::Display for Task {
 
 /// One step of the day.
 #[derive(Clone, Copy, Debug, PartialEq, Eq)]
-pub enum Step {
-    /// A task's call.
+pub(crate) enum Step {
+    /// `By(task, call)`: a task's call.
     By(Task, Call),
     /// The totals are asked for.
     Totals,
-    /// A task sets the byte at an offset to a value, which is not printed.
+    /// `Write(value, at)`: a task sets the byte at offset `at` to `value`. It is in the arena, and nothing is printed.
     Write(u8, usize),
     /// The byte at an offset is read.
     Byte(usize),

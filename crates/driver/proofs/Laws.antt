@@ -8,7 +8,6 @@ use Rattle.heap.proofs.Laws.{alloc_refused, free_refused}
 use Rattle.heap.proofs.ReallocLaws.{realloc_refused}
 use Rattle.heap.specs.declared.record.Heap.{Heap}
 use Rattle.model.specs.declared.Refusal.{Refusal}
-use Rattle.model.specs.declared.Resized.TheVariants as resized
 
 -- What is left is what was handed in, if by the definitions it is.
 as_handed : (h h' : Heap) (words words' bytes bytes' arena : List ℕ) (left : Stored) → (left ≡ handed h words) × (arena ≡ bytes)

@@ -1,4 +1,4 @@
-//! The least and the largest that a heap accepts or serves, one step past each, and a return between two holes. Each call is printed with its answer, `ok`
+//! The least and the largest that a heap accepts or serves, one step past each, and a free between two holes. Each call is printed with its answer, `ok`
 //! and the value or `no` and the number of its refusal. What the rules give stands in `stdout`, beside `src/`.
 #![tactic(auto)]
 
@@ -9,6 +9,7 @@ use printing::{Making, Rows, Shown, carry_out};
 use std::io;
 
 // Owner 1 has the largest quotas there are, so refusals 5 and 6 never apply.
+// Not shared with the other programs: the quotas, the sizes and the printed line are its own, and a shared one would be handed them all.
 fn init(rt: &impl Print, arena: &mut [u8], table: &mut [u32]) -> io::Result<Heap> {
     let bytes = arena.len();
     let rows = table.len() / 4;
@@ -116,23 +117,9 @@ fn between_holes(rt: &impl Print) -> io::Result<()> {
     let mut arena = [0; 256];
     let mut heap = init(rt, &mut arena, &mut table)?;
     run(rt, &mut heap, &mut arena, &mut table, &OUTER_TWO)?;
-    let in_use = heap.rows;
-    println!(rt;
-        "{}",
-        Rows {
-            in_use,
-            table: &table
-        }
-    )?;
+    println!(rt; "{}", Rows(&heap, &table))?;
     run(rt, &mut heap, &mut arena, &mut table, &[Free { at: 64 }])?;
-    let in_use = heap.rows;
-    println!(rt;
-        "{}",
-        Rows {
-            in_use,
-            table: &table
-        }
-    )
+    println!(rt; "{}", Rows(&heap, &table))
 }
 
 fn main(rt: HostRuntime) -> io::Result<()> {

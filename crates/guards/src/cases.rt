@@ -6,7 +6,7 @@ use crate::stand::Step::{
 use printing::Call::{Alloc, AllocAligned, BlockSize, Free, Holding, Realloc};
 
 /// The record says whether blocks have guards.
-pub const MAKING: [Step; 4] = [
+pub(crate) const MAKING: [Step; 4] = [
     Init { guarded: false },
     Record,
     Init { guarded: true },
@@ -14,7 +14,7 @@ pub const MAKING: [Step; 4] = [
 ];
 
 /// The granules of 1, 16 and 17 bytes, each with a guard.
-pub const SIZES: [Step; 10] = [
+pub(crate) const SIZES: [Step; 10] = [
     Init { guarded: true },
     Write(256, 5, 0),
     By(1, Alloc { size: 1 }),
@@ -28,7 +28,7 @@ pub const SIZES: [Step; 10] = [
 ];
 
 /// The same of 16 and 17 bytes without guards.
-pub const SIZES_UNGUARDED: [Step; 6] = [
+pub(crate) const SIZES_UNGUARDED: [Step; 6] = [
     Init { guarded: false },
     Write(256, 5, 0),
     By(1, Alloc { size: 16 }),
@@ -38,7 +38,7 @@ pub const SIZES_UNGUARDED: [Step; 6] = [
 ];
 
 /// The block at 64 has its guard at 96 to 111: its first byte is hit, then its last, then the byte after it.
-pub const PAST_END: [Step; 19] = [
+pub(crate) const PAST_END: [Step; 19] = [
     Init { guarded: true },
     By(1, Alloc { size: 40 }),
     By(1, Alloc { size: 32 }),
@@ -61,7 +61,7 @@ pub const PAST_END: [Step; 19] = [
 ];
 
 /// Owner 2's guard is broken, and whole again before the last two.
-pub const ORDER: [Step; 16] = [
+pub(crate) const ORDER: [Step; 16] = [
     Init { guarded: true },
     By(2, Alloc { size: 16 }),
     By(1, Alloc { size: 16 }),
@@ -81,7 +81,7 @@ pub const ORDER: [Step; 16] = [
 ];
 
 /// The largest size, 65,537 and 65,536 granules with the guard, then 5 and 4, and 5 and 4 without guards.
-pub const QUOTAS: [Step; 10] = [
+pub(crate) const QUOTAS: [Step; 10] = [
     Init { guarded: true },
     By(2, Alloc { size: 4294967295 }),
     By(1, Alloc { size: 4294967295 }),
@@ -95,7 +95,7 @@ pub const QUOTAS: [Step; 10] = [
 ];
 
 /// The guard is in the way of the first, and a single granule at the end is too short for a block and its guard.
-pub const FILLS: [Step; 6] = [
+pub(crate) const FILLS: [Step; 6] = [
     Init { guarded: true },
     By(1, Alloc { size: 241 }),
     By(1, Alloc { size: 240 }),
@@ -105,10 +105,10 @@ pub const FILLS: [Step; 6] = [
 ];
 
 /// One granule has no room for a block and its guard.
-pub const LEAST_ARENA: [Step; 2] = [Init { guarded: true }, By(1, Alloc { size: 1 })];
+pub(crate) const LEAST_ARENA: [Step; 2] = [Init { guarded: true }, By(1, Alloc { size: 1 })];
 
 /// A single row has no room for a rest.
-pub const SINGLE_ROW: [Step; 4] = [
+pub(crate) const SINGLE_ROW: [Step; 4] = [
     Init { guarded: true },
     By(1, Alloc { size: 224 }),
     Bytes,
@@ -116,7 +116,7 @@ pub const SINGLE_ROW: [Step; 4] = [
 ];
 
 /// Another arena of 240 bytes, and one of none.
-pub const GUARDED_IN_OTHERS: [Step; 4] = [
+pub(crate) const GUARDED_IN_OTHERS: [Step; 4] = [
     In(240, 1, Alloc { size: 16 }),
     In(0, 1, Alloc { size: 16 }),
     In(240, 9, Alloc { size: 16 }),
@@ -124,7 +124,7 @@ pub const GUARDED_IN_OTHERS: [Step; 4] = [
 ];
 
 /// The same without guards.
-pub const UNGUARDED_IN_OTHERS: [Step; 5] = [
+pub(crate) const UNGUARDED_IN_OTHERS: [Step; 5] = [
     Init { guarded: false },
     In(240, 1, Alloc { size: 16 }),
     In(0, 1, Alloc { size: 16 }),
@@ -134,7 +134,7 @@ pub const UNGUARDED_IN_OTHERS: [Step; 5] = [
 
 /// The same count, a granule longer, shorter, and longer by all that is free at its right. Then up over bytes that are not zero, and down to just
 /// before the old place.
-pub const RESIZES: [Step; 30] = [
+pub(crate) const RESIZES: [Step; 30] = [
     Init { guarded: true },
     By(1, Alloc { size: 33 }),
     Write(48, 1, 0),
@@ -174,7 +174,7 @@ pub const RESIZES: [Step; 30] = [
 ];
 
 /// The granules skipped for alignment are too few for a block and its guard.
-pub const ALIGNMENT: [Step; 6] = [
+pub(crate) const ALIGNMENT: [Step; 6] = [
     Init { guarded: true },
     By(1, AllocAligned { size: 16, on: 32 }),
     By(1, AllocAligned { size: 17, on: 64 }),
@@ -184,15 +184,15 @@ pub const ALIGNMENT: [Step; 6] = [
 ];
 
 /// The guard would end past the arena.
-pub const AT_END: [Step; 4] = [
+pub(crate) const AT_END: [Step; 4] = [
     Init { guarded: true },
     By(1, AllocAligned { size: 1, on: 128 }),
     By(1, AllocAligned { size: 128, on: 128 }),
     By(1, AllocAligned { size: 112, on: 128 }),
 ];
 
-/// The block that was lent on 64 moves once its guard is whole.
-pub const DRIVERS_LAYER: [Step; 13] = [
+/// A case of its own, though all cases' calls go through the drivers' layer. The block that was lent on 64 moves once its guard is whole.
+pub(crate) const DRIVERS_LAYER: [Step; 13] = [
     Init { guarded: true },
     By(1, AllocAligned { size: 40, on: 64 }),
     By(1, AllocAligned { size: 32, on: 16 }),

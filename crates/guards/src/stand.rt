@@ -2,19 +2,19 @@
 
 use heap::Heap;
 use model::Plan;
-use printing::{Bytes, Call, Granted, Making, Rows, Shown, trace, write};
+use printing::{Bytes, Call, Making, Rows, Shown, totals, trace, write};
 use std::io;
 
 /// One step of a case.
 #[derive(Clone, Copy, Debug, PartialEq, Eq)]
-pub enum Step {
+pub(crate) enum Step {
     /// A heap is made of the table and the arena as they stand, with guards or without.
     Init { guarded: bool },
-    /// A call by an owner.
+    /// `By(owner, call)`: a call by an owner.
     By(u32, Call),
-    /// A call by an owner that is lent the first so many bytes of another arena.
+    /// `In(bytes, owner, call)`: a call by an owner that is lent the first `bytes` bytes of another arena.
     In(usize, u32, Call),
-    /// A task, or a stray hand in free memory, sets so many bytes to a value, from an offset on.
+    /// `Write(count, value, at)`: a task, or a stray hand in free memory, sets `count` bytes to `value`, from offset `at` on. They lie in the arena.
     Write(usize, u8, usize),
     /// Another guard number in the record.
     Guards(u32),
@@ -31,19 +31,20 @@ pub enum Step {
 }
 
 /// A heap whose calls are printed with their answers.
+// Not shared with the other programs: each has its own steps and quotas, and memory of its own or lent. A shared one would be handed all of that.
 #[derive(Drop)]
-pub struct Stand<'r, 'a, R> {
-    pub rt: &'r R,
-    pub base: u32,
-    pub heap: Heap,
-    pub table: &'a mut [u32],
-    pub arena: &'a mut [u8],
-    pub other: [u8; 256],
+pub(crate) struct Stand<'r, 'a, R> {
+    pub(crate) rt: &'r R,
+    pub(crate) base: u32,
+    pub(crate) heap: Heap,
+    pub(crate) table: &'a mut [u32],
+    pub(crate) arena: &'a mut [u8],
+    pub(crate) other: [u8; 256],
 }
 
 impl<'r, 'a, R: Print> Stand<'r, 'a, R> {
     /// There is no heap before the first `Init`.
-    pub fn new(
+    pub(crate) fn new(
         rt: &'r R,
         base: u32,
         table: &'a mut [u32],
@@ -60,14 +61,15 @@ impl<'r, 'a, R: Print> Stand<'r, 'a, R> {
     }
 
     /// Carries the steps out, one after the other.
-    // Written out in each program: a function of the steps and of what carries one out would be no shorter.
-    pub fn run(&mut self, steps: &[Step]) -> io::Result<()> {
+    // Written out in each program: a function that is handed `carry_out` would need a `requires` that the closure can be called at each step.
+    pub(crate) fn run(&mut self, steps: &[Step]) -> io::Result<()> {
         for &step in steps {
             self.carry_out(step)?;
         }
         Ok(())
     }
 
+    // One arm for each kind of step: tables of steps are constants, and a constant holds no closures.
     fn carry_out(&mut self, step: Step) -> io::Result<()> {
         let rt = self.rt;
         match step {
@@ -93,6 +95,7 @@ impl<'r, 'a, R: Print> Stand<'r, 'a, R> {
     }
 
     // Owner 1 has the largest quotas there are, owner 2 has 4 granules and 2 blocks.
+    // Not shared with the other programs: the quotas, the sizes and the printed line are its own, and a shared one would be handed them all.
     fn init(&mut self, guarded: bool) -> io::Result<()> {
         let bytes = self.arena.len();
         let words = self.table.len();
@@ -122,18 +125,16 @@ impl<'r, 'a, R: Print> Stand<'r, 'a, R> {
         trace(rt, &mut self.heap, self.table, arena, owner, call)
     }
 
-    // These print what this stand keeps; shared with another program they would have to be handed all of it.
+    // In each program, by `&self`: in `carry_out`, by `&mut self`, the check has no rule yet for the loans of record and table together.
     fn print_rows(&self) -> io::Result<()> {
-        let in_use = self.heap.rows;
-        let table = &*self.table;
-        println!(self.rt; "{}", Rows { in_use, table })
+        println!(self.rt; "{}", Rows(&self.heap, self.table))
     }
 
     fn print_totals(&self) -> io::Result<()> {
-        let totals = driver::totals(&self.heap, self.table);
-        println!(self.rt; "totals: {}", Shown(totals.map(Granted::Totals)))
+        println!(self.rt; "totals: {}", Shown(totals(&self.heap, self.table)))
     }
 
+    // Not shared with `addresses`, which prints other fields of it.
     fn print_record(&self) -> io::Result<()> {
         let Heap {
             rows,
@@ -150,11 +151,11 @@ impl<'r, 'a, R: Print> Stand<'r, 'a, R> {
 }
 
 /// Carries the steps of a case out on 16 granules from a base address on and a table of 8 rows.
-pub fn run_on(rt: &impl Print, base: u32, steps: &[Step]) -> io::Result<()> {
+pub(crate) fn run_on(rt: &impl Print, base: u32, steps: &[Step]) -> io::Result<()> {
     Stand::new(rt, base, &mut [0; 32], &mut [0; 256]).run(steps)
 }
 
 /// The same from address 0 on.
-pub fn run(rt: &impl Print, steps: &[Step]) -> io::Result<()> {
+pub(crate) fn run(rt: &impl Print, steps: &[Step]) -> io::Result<()> {
     run_on(rt, 0, steps)
 }

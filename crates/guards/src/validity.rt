@@ -4,11 +4,11 @@ use crate::stand::Stand;
 use crate::stand::Step::{self, By, Guards, Init, Totals};
 use heap::Heap;
 use printing::Call::{Alloc, Free, Realloc};
-use printing::{Granted, Shown};
+use printing::{Shown, totals};
 use std::io;
 
 /// A guard number that is neither 0 nor 1 or is not the heap's, and then rows that no guarded heap has beside those that one has.
-pub fn validity(rt: &impl Print) -> io::Result<()> {
+pub(crate) fn validity(rt: &impl Print) -> io::Result<()> {
     let mut table = [0; 32];
     let mut arena = [0; 256];
     let mut stand = Stand::new(rt, 0, &mut table, &mut arena);
@@ -58,6 +58,5 @@ fn totals_with_row(rt: &impl Print, heap: Heap, length: u32, requested: u32) -> 
         peak: 3,
         ..heap
     };
-    let totals = driver::totals(&with_row, &table);
-    println!(rt; "totals: {}", Shown(totals.map(Granted::Totals)))
+    println!(rt; "totals: {}", Shown(totals(&with_row, &table)))
 }

@@ -14,12 +14,16 @@ use Rattle.printing.specs.declared.answers.Granted.TheVariants as granted
 abbrev pub answer_to : Stored → List ℕ → ℕ → Call → Result Granted Refusal
 answer_to s bytes o (Alloc n) = result_map_both granted.At (λ why. why) (calls.alloc s bytes o n)
 answer_to s bytes o (AllocAligned n a) = result_map_both granted.At (λ why. why) (calls.alloc_aligned s bytes o n a)
-answer_to s bytes o (Free x) = result_map_both granted.Bytes (λ why. why) (calls.free s bytes o x)
+answer_to s bytes o (Free x) = result_map_both granted.Freed (λ why. why) (calls.free s bytes o x)
 answer_to s bytes o (Realloc x n) = result_map_both granted.Resized (λ why. why) (calls.realloc s bytes o x n)
 answer_to s bytes o (BlockSize x) = result_map_both granted.BlockSize (λ why. why) (calls.block_size s o x)
 answer_to s bytes o Holding = result_map_both granted.Holding (λ why. why) (calls.holding_of s o)
 
--- It leaves the record and the table that the heap's leaves; an enquiry leaves them as they were.
+-- The enquiry for the totals, which is no owner's, answers as the heap's does.
+abbrev pub totals_answer : Stored → Result Granted Refusal
+totals_answer s = result_map_both granted.Totals (λ why. why) (calls.totals_of s)
+
+-- A call leaves the record and the table that the heap's leaves; an enquiry leaves them as they were.
 abbrev pub after_call : Stored → List ℕ → ℕ → Call → Stored
 after_call s bytes o (Alloc n) = calls.after_alloc s bytes o n
 after_call s bytes o (AllocAligned n a) = calls.after_alloc_aligned s bytes o n a
@@ -28,7 +32,7 @@ after_call s bytes o (Realloc x n) = calls.after_realloc s bytes o x n
 after_call s bytes o (BlockSize x) = s
 after_call s bytes o Holding = s
 
--- It leaves the arena that the heap's leaves; an enquiry leaves it as it was.
+-- A call leaves the arena that the heap's leaves; an enquiry leaves it as it was.
 abbrev pub arena_after_call : Stored → List ℕ → ℕ → Call → List ℕ
 arena_after_call s bytes o (Alloc n) = calls.arena_after_alloc_aligned s bytes o n 16
 arena_after_call s bytes o (AllocAligned n a) = calls.arena_after_alloc_aligned s bytes o n a

@@ -8,19 +8,19 @@ use std::fmt;
 pub enum Granted {
     /// The offset of a block that is lent.
     At(u32),
-    /// The bytes that came back.
-    Bytes(u32),
+    /// The bytes that a free gave back.
+    Freed(u32),
     Resized(Resized),
     BlockSize(BlockSize),
     Holding(Holding),
     Totals(Totals),
 }
 
-/// The bytes that come back from a resize to size 0 are told from an offset.
+/// What a resize to size 0 gives back is printed as `N bytes`, so that it is not read as an offset.
 impl fmt::Display for Granted {
     fn fmt<W: fmt::Write>(&self, f: &mut fmt::Formatter<W>) -> fmt::Result {
         match *self {
-            Granted::At(value) | Granted::Bytes(value) | Granted::Resized(Resized::At(value)) => {
+            Granted::At(value) | Granted::Freed(value) | Granted::Resized(Resized::At(value)) => {
                 write!(f, "{value}")
             }
             Granted::Resized(Resized::Freed(bytes)) => write!(f, "{bytes} bytes"),

@@ -2,15 +2,15 @@
 
 ghost use Rattle.std.specs.Prelude.{◌≡◌};
 ghost use Rattle.heap.specs.Stored.{handed};
-ghost use Rattle.printing.specs.Lending.{answer_to, after_call, arena_after_call};
+ghost use Rattle.printing.specs.Lending.{answer_to, totals_answer, after_call, arena_after_call};
 
 use crate::answers::{Granted, Shown};
 use heap::Heap;
 use model::Refusal;
 use std::{fmt, io};
 
-/// A task's call on its heap; the number of the task's owner stands beside it. `at` is a block's offset, `to` its new size and `on` an alignment, all in
-/// bytes.
+/// A task's call on its heap. The number of the task's owner is handed in beside it. `at` is a block's offset, `to` its new size and `on` an alignment,
+/// all in bytes.
 #[derive(Clone, Copy, Debug, PartialEq, Eq)]
 pub enum Call {
     Alloc { size: u32 },
@@ -47,12 +47,13 @@ pub fn carry_out(
     ensures table { table.new ≡ (after_call (handed heap.old table.old) arena.old owner call).words }
     ensures arena { arena.new ≡ arena_after_call (handed heap.old table.old) arena.old owner call }
 {
+    // One arm for each call: the programs' tables of calls are constants, and a constant holds no closures.
     let granted = match call {
         Call::Alloc { size } => Granted::At(driver::alloc(heap, table, arena, owner, size)?),
         Call::AllocAligned { size, on } => {
             Granted::At(driver::alloc_aligned(heap, table, arena, owner, size, on)?)
         }
-        Call::Free { at } => Granted::Bytes(driver::free(heap, table, arena, owner, at)?),
+        Call::Free { at } => Granted::Freed(driver::free(heap, table, arena, owner, at)?),
         Call::Realloc { at, to } => {
             Granted::Resized(driver::realloc(heap, table, arena, owner, at, to)?)
         }
@@ -60,6 +61,13 @@ pub fn carry_out(
         Call::Holding => Granted::Holding(driver::holding(heap, table, owner)?),
     };
     Ok(granted)
+}
+
+/// What a heap answers for its totals, through the drivers' layer.
+pub fn totals(heap: &Heap, table: &[u32]) -> Result<Granted, Refusal>
+    ensures answer { result ≡ totals_answer (handed heap.now table.now) }
+{
+    Ok(Granted::Totals(driver::totals(heap, table)?))
 }
 
 /// Carries a call out as `carry_out` does, and prints it with its answer. If the printing fails the call has been carried out all the same.

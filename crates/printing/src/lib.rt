@@ -6,5 +6,5 @@ mod calls;
 mod memory;
 
 pub use answers::{Granted, Making, Shown};
-pub use calls::{Call, carry_out, trace};
+pub use calls::{Call, carry_out, totals, trace};
 pub use memory::{Bytes, Rows, write};

@@ -3,9 +3,11 @@
 ghost use Rattle.std.specs.Prelude.{◌≡◌, ◌+◌, ◌*◌, ◌<◌, ◌≤◌, length, replicate};
 ghost use Rattle.model.specs.Arena.{written};
 
+use heap::Heap;
 use std::fmt;
 
 /// Sets `count` bytes from `at` on to a value. A run that does not lie in the arena is not written.
+// The count and the place stand beside the arena: that is the customer's memory, lent as it is.
 pub fn write(arena: &mut [u8], count: usize, value: u8, at: usize)
     ensures inside { at + count ≤ length arena.old → arena.new ≡ written at (replicate count value) arena.old }
     ensures outside { length arena.old < at + count → arena.new ≡ arena.old }
@@ -33,20 +35,19 @@ impl fmt::Display for Bytes<'_> {
     }
 }
 
-/// The rows of a table that are in use, on one line.
+/// A heap's rows that are in use, on one line: of its record and its table.
+// Two things and not one: the record and the table are lent each by itself, as a rule of the project.
 #[derive(Drop)]
-pub struct Rows<'a> {
-    pub in_use: u32,
-    pub table: &'a [u32],
-}
+pub struct Rows<'a>(pub &'a Heap, pub &'a [u32]);
 
 impl fmt::Display for Rows<'_> {
     fn fmt<W: fmt::Write>(&self, f: &mut fmt::Formatter<W>) -> fmt::Result {
-        write!(f, "rows {}", self.in_use)?;
-        let rows = self.table.len() / 4;
+        let Rows(heap, table) = *self;
+        write!(f, "rows {}", heap.rows)?;
+        let rows = table.len() / 4;
         // By their numbers: `segments::row` reads row i.
-        for i in 0..rows.min(self.in_use as usize) {
-            write_row(f, self.table, i)?;
+        for i in 0..rows.min(heap.rows as usize) {
+            write_row(f, table, i)?;
         }
         Ok(())
     }

@@ -5,7 +5,7 @@ use printing::Call::{Alloc, Free, Realloc};
 
 /// Seven blocks of 2 granules and a hole at the end. A tail between two blocks needs a row, and gets it once the last block has taken the whole hole.
 /// The block at 32 would find a hole of its new length at 16, but a shorter block stays.
-pub const ROWS_IN_PLACE: [Step; 16] = [
+pub(crate) const ROWS_IN_PLACE: [Step; 16] = [
     By(1, Alloc { size: 32 }),
     By(1, Alloc { size: 32 }),
     By(1, Alloc { size: 32 }),
@@ -26,7 +26,7 @@ pub const ROWS_IN_PLACE: [Step; 16] = [
 
 /// Both moves would leave a rest of the hole at 112. The block at 0 leaves a hole of its own, and needs a row; the hole at 224, which it would use up
 /// whole, is not tried. The block at 64 leaves its place to the hole before it, and needs none afterwards.
-pub const ROWS_OF_MOVES: [Step; 16] = [
+pub(crate) const ROWS_OF_MOVES: [Step; 16] = [
     By(1, Alloc { size: 16 }),
     By(1, Alloc { size: 32 }),
     By(1, Alloc { size: 16 }),
@@ -45,8 +45,8 @@ pub const ROWS_OF_MOVES: [Step; 16] = [
     Resize { at: 0, to: 17 },
 ];
 
-/// A move, a growth, a shortening, a refusal and a return.
-pub const PEAK_FOLLOWS: [Step; 14] = [
+/// A move, a growth, a shortening, a refusal and a free.
+pub(crate) const PEAK_FOLLOWS: [Step; 14] = [
     By(1, Alloc { size: 32 }),
     By(1, Alloc { size: 32 }),
     By(1, Alloc { size: 16 }),
@@ -64,7 +64,7 @@ pub const PEAK_FOLLOWS: [Step; 14] = [
 ];
 
 /// The old place and the new one together are more than the peak, and the state afterwards is less.
-pub const PEAK_STAYS: [Step; 6] = [
+pub(crate) const PEAK_STAYS: [Step; 6] = [
     By(1, Alloc { size: 48 }),
     By(1, Alloc { size: 16 }),
     By(1, Alloc { size: 80 }),

@@ -29,7 +29,7 @@ fn main(rt: HostRuntime) -> io::Result<()> {
     println!(rt; "\nno place though the free total would do, and nothing changes")?;
     run(&rt, &places::NO_PLACE)?;
     println!(rt; "\nsize 0 is a return and answers as one")?;
-    run(&rt, &refusals::RETURNS)?;
+    run(&rt, &refusals::FREES)?;
     println!(rt; "\nrefusals 1, 11, 2, 15, 16, 17, 9, 10, 6, 7, 8, in this order")?;
     refusals::refusals(&rt)?;
     run(&rt, &refusals::FULL_TABLE)?;

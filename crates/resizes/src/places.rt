@@ -4,7 +4,7 @@ use crate::stand::Step::{self, By, Resize, Show, Totals, Write};
 use printing::Call::{Alloc, AllocAligned, Free, Realloc};
 
 /// 2 granules hold 17 to 32 bytes. At 16 the tail goes back, at 33 the block moves, since its neighbour is live.
-pub const SAME_COUNT: [Step; 11] = [
+pub(crate) const SAME_COUNT: [Step; 11] = [
     By(1, Alloc { size: 17 }),
     By(1, Alloc { size: 16 }),
     Write(32, 1, 0),
@@ -19,7 +19,7 @@ pub const SAME_COUNT: [Step; 11] = [
 ];
 
 /// The right neighbour of the tail: live, a free run, the free run at the arena's end, live again with a free run at the block's left, and none.
-pub const SHORTER: [Step; 15] = [
+pub(crate) const SHORTER: [Step; 15] = [
     By(1, Alloc { size: 96 }),
     By(1, Alloc { size: 80 }),
     By(1, Alloc { size: 32 }),
@@ -38,7 +38,7 @@ pub const SHORTER: [Step; 15] = [
 ];
 
 /// The run has more than is needed, just as much, and a granule less. Last, a lower hole would serve too, but the run comes first.
-pub const LONGER_IN_PLACE: [Step; 15] = [
+pub(crate) const LONGER_IN_PLACE: [Step; 15] = [
     By(1, Alloc { size: 32 }),
     By(1, Alloc { size: 48 }),
     By(1, Alloc { size: 32 }),
@@ -57,7 +57,7 @@ pub const LONGER_IN_PLACE: [Step; 15] = [
 ];
 
 /// With its own place counted as free, the first two would start at 32. The third goes there, up to its own start.
-pub const HIGHER_AND_LOWER: [Step; 14] = [
+pub(crate) const HIGHER_AND_LOWER: [Step; 14] = [
     By(1, Alloc { size: 32 }),
     By(1, Alloc { size: 32 }),
     By(1, Alloc { size: 20 }),
@@ -75,7 +75,7 @@ pub const HIGHER_AND_LOWER: [Step; 14] = [
 ];
 
 /// A hole at either side: the two and the block itself would be just enough.
-pub const BETWEEN_TWO_HOLES: [Step; 13] = [
+pub(crate) const BETWEEN_TWO_HOLES: [Step; 13] = [
     By(1, Alloc { size: 16 }),
     By(1, Alloc { size: 16 }),
     By(1, Alloc { size: 32 }),
@@ -92,7 +92,7 @@ pub const BETWEEN_TWO_HOLES: [Step; 13] = [
 ];
 
 /// The new place is aligned to 16, whatever the first was aligned to.
-pub const ALIGNMENT_FORGOTTEN: [Step; 5] = [
+pub(crate) const ALIGNMENT_FORGOTTEN: [Step; 5] = [
     By(1, Alloc { size: 16 }),
     By(1, AllocAligned { size: 16, on: 64 }),
     By(1, Alloc { size: 64 }),
@@ -101,7 +101,7 @@ pub const ALIGNMENT_FORGOTTEN: [Step; 5] = [
 ];
 
 /// To the last granule, and no place for one more.
-pub const END_WITH_NO_PLACE: [Step; 7] = [
+pub(crate) const END_WITH_NO_PLACE: [Step; 7] = [
     By(1, Alloc { size: 96 }),
     By(1, Alloc { size: 64 }),
     Write(64, 2, 96),
@@ -112,7 +112,7 @@ pub const END_WITH_NO_PLACE: [Step; 7] = [
 ];
 
 /// To the last granule, a move for one more, and from there to the whole arena.
-pub const END_WITH_A_PLACE: [Step; 9] = [
+pub(crate) const END_WITH_A_PLACE: [Step; 9] = [
     By(1, Alloc { size: 144 }),
     By(1, Alloc { size: 64 }),
     By(1, Free { at: 0 }),
@@ -125,7 +125,7 @@ pub const END_WITH_A_PLACE: [Step; 9] = [
 ];
 
 /// Live blocks at 0, 80 and 176, of 2, 3 and 3 granules, with holes of 3, 3 and 2 after them. Each of the two refused gets a byte less in its place.
-pub const NO_PLACE: [Step; 21] = [
+pub(crate) const NO_PLACE: [Step; 21] = [
     By(1, Alloc { size: 32 }),
     By(1, Alloc { size: 48 }),
     By(1, Alloc { size: 48 }),

@@ -1,4 +1,4 @@
-//! The refusals of a resize in their order, and those of a resize to size 0, which is a return.
+//! The refusals of a resize in their order, and those of a resize to size 0, which is a free.
 
 use crate::stand::Stand;
 use crate::stand::Step::{self, By, Resize, Show, Write};
@@ -7,9 +7,9 @@ use printing::Call::{Alloc, Free, Realloc};
 use printing::trace;
 use std::io;
 
-/// After the first resize a return's order, but for 1 and 11, which are among the refusals below. A second return gets 17 while the place is free,
+/// After the first resize a free's order, but for 1 and 11, which are among the refusals below. A second free gets 17 while nobody has the place,
 /// and 10 once it is lent to another owner.
-pub const RETURNS: [Step; 19] = [
+pub(crate) const FREES: [Step; 19] = [
     By(1, Alloc { size: 40 }),
     By(1, Alloc { size: 20 }),
     By(1, Alloc { size: 16 }),
@@ -32,7 +32,7 @@ pub const RETURNS: [Step; 19] = [
 ];
 
 /// A table with no row to spare: 6 before 8, 7, 8, and a move that takes its hole whole. 7 and 8 exclude each other.
-pub const FULL_TABLE: [Step; 12] = [
+pub(crate) const FULL_TABLE: [Step; 12] = [
     By(2, Alloc { size: 16 }),
     By(1, Alloc { size: 16 }),
     By(1, Alloc { size: 16 }),
@@ -48,7 +48,7 @@ pub const FULL_TABLE: [Step; 12] = [
 ];
 
 /// All refusals on one heap.
-pub fn refusals(rt: &impl Print) -> io::Result<()> {
+pub(crate) fn refusals(rt: &impl Print) -> io::Result<()> {
     let mut stand = Stand::init(rt)?;
     stand.run(&BLOCKS)?;
     unsound(&mut stand)?;

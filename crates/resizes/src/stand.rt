@@ -2,17 +2,17 @@
 
 use heap::Heap;
 use model::Plan;
-use printing::{Bytes, Call, Granted, Making, Rows, Shown, trace, write};
+use printing::{Bytes, Call, Making, Rows, Shown, totals, trace, write};
 use std::io;
 
 /// One step of a case.
 #[derive(Clone, Copy, Debug, PartialEq, Eq)]
-pub enum Step {
-    /// A call by an owner.
+pub(crate) enum Step {
+    /// `By(owner, call)`: a call by an owner.
     By(u32, Call),
     /// A resize by owner 1, and what it leaves.
     Resize { at: u32, to: u32 },
-    /// A task, or a stray hand in free memory, sets so many bytes to a value, from an offset on.
+    /// `Write(count, value, at)`: a task, or a stray hand in free memory, sets `count` bytes to `value`, from offset `at` on. They lie in the arena.
     Write(usize, u8, usize),
     /// The rows and the bytes as they stand.
     Show,
@@ -21,17 +21,19 @@ pub enum Step {
 }
 
 /// A heap of 16 granules with a table of 8 rows, whose calls are printed with their answers.
+// Not shared with the other programs: each has its own steps and quotas, and memory of its own or lent. A shared one would be handed all of that.
 #[derive(Drop)]
-pub struct Stand<'a, R> {
-    pub rt: &'a R,
-    pub heap: Heap,
-    pub table: [u32; 32],
-    pub arena: [u8; 256],
+pub(crate) struct Stand<'a, R> {
+    pub(crate) rt: &'a R,
+    pub(crate) heap: Heap,
+    pub(crate) table: [u32; 32],
+    pub(crate) arena: [u8; 256],
 }
 
 impl<'a, R: Print> Stand<'a, R> {
     /// Owner 1 has the largest quotas there are, owner 2 has 4 granules and 1 block.
-    pub fn init(rt: &'a R) -> io::Result<Stand<'a, R>> {
+    // Not shared with the other programs: the quotas, the sizes and the printed line are its own, and a shared one would be handed them all.
+    pub(crate) fn init(rt: &'a R) -> io::Result<Stand<'a, R>> {
         let mut table = [0; 32];
         let mut arena = [0; 256];
         let plan = Plan {
@@ -55,14 +57,15 @@ impl<'a, R: Print> Stand<'a, R> {
     }
 
     /// Carries the steps out, one after the other.
-    // Written out in each program: a function of the steps and of what carries one out would be no shorter.
-    pub fn run(&mut self, steps: &[Step]) -> io::Result<()> {
+    // Written out in each program: a function that is handed `carry_out` would need a `requires` that the closure can be called at each step.
+    pub(crate) fn run(&mut self, steps: &[Step]) -> io::Result<()> {
         for &step in steps {
             self.carry_out(step)?;
         }
         Ok(())
     }
 
+    // One arm for each kind of step: tables of steps are constants, and a constant holds no closures.
     fn carry_out(&mut self, step: Step) -> io::Result<()> {
         match step {
             Step::By(owner, call) => self.call(owner, call),
@@ -76,8 +79,7 @@ impl<'a, R: Print> Stand<'a, R> {
             }
             Step::Show => self.show(),
             Step::Totals => {
-                let totals = driver::totals(&self.heap, &self.table);
-                println!(self.rt; "totals: {}", Shown(totals.map(Granted::Totals)))
+                println!(self.rt; "totals: {}", Shown(totals(&self.heap, &self.table)))
             }
         }
     }
@@ -94,16 +96,12 @@ impl<'a, R: Print> Stand<'a, R> {
     }
 
     fn show(&self) -> io::Result<()> {
-        let rows = Rows {
-            in_use: self.heap.rows,
-            table: &self.table,
-        };
-        println!(self.rt; "{rows}")?;
+        println!(self.rt; "{}", Rows(&self.heap, &self.table))?;
         println!(self.rt; "{}", Bytes(&self.arena))
     }
 }
 
 /// Carries the steps of a case out on a heap of its own.
-pub fn run(rt: &impl Print, steps: &[Step]) -> io::Result<()> {
+pub(crate) fn run(rt: &impl Print, steps: &[Step]) -> io::Result<()> {
     Stand::init(rt)?.run(steps)
 }
