@@ -14,12 +14,13 @@ use lib.Seq.{length-sets, take-suc, drop-cons}
 use borrow.Author.Tests.{lt-ltb, le-ltb}
 use Rattle.model.specs.Choose.{total}
 use Rattle.model.specs.Orders.{totals_order}
+use Rattle.model.specs.SegmentMap.{free_run}
 use Rattle.model.proofs.Choosing.{split, tests}
 use Rattle.script.specs.Text.{ascii, digits_within, decimal, spaced, line_of}
 use Rattle.script.specs.Machine.{machine, seg_line, seg_lines, closing, closing_with}
 use Rattle.script.specs.Steps.{Put}
-use Rattle.segments.specs.Rows.{segment_at, segments_in}
-use Rattle.segments.proofs.Reading.{row_below}
+use Rattle.segments.specs.Rows.{nth_row, segments_in}
+use Rattle.segments.proofs.Rows.{length_segments}
 use Rattle.heap.specs.Stored.{handed}
 use Rattle.heap.specs.Valid.{valid}
 use Rattle.heap.specs.Calls.{totals_of}
@@ -174,28 +175,23 @@ four_most word a b c d h i j k =
       length_decimal 9 d (omega arith),
     )
 
--- The rows up to one more are those before it, and that row.
-rows_more : (i : ℕ) (ws : List ℕ) → segments_in (suc i) ws ≡ segments_in i ws ++ (segment_at ws i ∷ [])
-rows_more zero ws = refl
-rows_more (suc i) ws = ap (λ r. segment_at ws 0 ∷ r) (rows_more i (drop 4 ws)) ∙ rw (row_below ws i)
-
 -- The lines of rows joined are their lines joined.
 rows_append : (xs ys : List Segment) → seg_lines (xs ++ ys) ≡ seg_lines xs ++ seg_lines ys
 rows_append [] ys = refl
 rows_append (x ∷ xs) ys = ap (λ r. seg_line x ++ r) (rows_append xs ys) ∙ sym (append_assoc (seg_line x) (seg_lines xs) (seg_lines ys))
 
 -- The lines of one more row are those of the rows before it, and that row's.
-lines_more : (i : ℕ) (ws : List ℕ) → seg_lines (segments_in (i + 1) ws) ≡ seg_lines (segments_in i ws) ++ seg_line (segment_at ws i)
-lines_more i ws =
+lines_more : (i : ℕ) (xs : List Segment) → i < length xs → seg_lines (take (i + 1) xs) ≡ seg_lines (take i xs) ++ seg_line (nth_row xs i)
+lines_more i xs h =
     rw (add-one i)
-    (ap seg_lines (rows_more i ws)
-    ∙ rows_append (segments_in i ws) (segment_at ws i ∷ [])
-    ∙ ap (λ r. seg_lines (segments_in i ws) ++ r) (append-nil (seg_line (segment_at ws i))))
+    (ap seg_lines (take-suc xs i (free_run 0 0) h)
+    ∙ rows_append (take i xs) (nth_row xs i ∷ [])
+    ∙ ap (λ r. seg_lines (take i xs) ++ r) (append-nil (seg_line (nth_row xs i))))
 
 -- The line of a row that is put after those of the rows before it is one more of them.
-pub put_row : (i : ℕ) (ws : List ℕ) (x : Segment) → x ≡ segment_at ws i → {buffer mid after : List ℕ} {at p q : ℕ}
-    → Put (seg_lines (segments_in i ws)) buffer at p mid → Put (seg_line x) mid p q after → Put (seg_lines (segments_in (i + 1) ws)) buffer at q after
-put_row i ws x e f g = put_same (ap (λ s. seg_lines (segments_in i ws) ++ seg_line s) e ∙ sym (lines_more i ws)) (put_append f g)
+pub put_row : (i : ℕ) (xs : List Segment) (x : Segment) → i < length xs → x ≡ nth_row xs i → {buffer mid after : List ℕ} {at p q : ℕ}
+    → Put (seg_lines (take i xs)) buffer at p mid → Put (seg_line x) mid p q after → Put (seg_lines (take (i + 1) xs)) buffer at q after
+put_row i xs x h e f g = put_same (ap (λ s. seg_lines (take i xs) ++ seg_line s) e ∙ sym (lines_more i xs h)) (put_append f g)
 
 -- Totals that are not refused are those of a valid heap.
 totals_valid : (r : Heap) (ws : List ℕ) (sums : Totals) → totals_of (handed r ws) ≡ Ok sums → valid r ws ≡ true
@@ -229,11 +225,15 @@ module _ (s : Script) (table : List ℕ) (n : ℕ) (lent : n ≡ min (4 * s.heap
         let b : Bounds s.heap (take n table) (totals_valid s.heap (take n table) sums (sym done ∙ e)) = bounds _ _ _ in
         (omega arith, omega arith)
 
+    pub rows_few : {xs : List Segment} → xs ≡ segments_in s.heap.rows (take n table) → length xs ≤ 512
+    rows_few read = omega (arith, rows_lent, ap length read, length_segments s.heap.rows (take n table))
+
     -- The rows are written then, and the totals.
-    pub closing_rows : {buffer mid after : List ℕ} {at p q : ℕ} → Put (seg_lines (segments_in s.heap.rows (take n table))) buffer at p mid
+    pub closing_rows : {xs : List Segment} → xs ≡ segments_in s.heap.rows (take n table) → {buffer mid after : List ℕ} {at p q : ℕ} → Put (seg_lines xs) buffer at p mid
         → Put (line_of (ascii "sum") (sums.used ∷ sums.free ∷ sums.peak ∷ sums.longest ∷ [])) mid p q after → (bs : List ℕ) → Put (closing (machine s table bs)) buffer at q after
-    closing_rows f g bs =
+    closing_rows read f g bs =
         put_same
-        (ap (λ ws. seg_lines (segments_in s.heap.rows ws) ++ line_of (ascii "sum") (sums.used ∷ sums.free ∷ sums.peak ∷ sums.longest ∷ [])) lent_words
+        (ap (λ xs. seg_lines xs ++ line_of (ascii "sum") (sums.used ∷ sums.free ∷ sums.peak ∷ sums.longest ∷ [])) read
+        ∙ ap (λ ws. seg_lines (segments_in s.heap.rows ws) ++ line_of (ascii "sum") (sums.used ∷ sums.free ∷ sums.peak ∷ sums.longest ∷ [])) lent_words
         ∙ sym (closing_told t done bs ∙ ap (closing_with (machine s table bs)) e))
         (put_append f g)

@@ -1,6 +1,5 @@
 //! Lines written into a lent buffer: an answer, and the rows and totals at the end.
 ghost use Rattle.std.specs.Prelude.{◌≡◌, List, [], ◌∷◌, ℕ, ◌+◌, ◌*◌, ◌≤◌, ◌<◌, ◌^◌, length, Result};
-ghost use Rattle.segments.specs.Rows.{segments_in};
 ghost use Rattle.script.specs.Text.{decimal, spaced, line_of};
 ghost use Rattle.script.specs.Commands.{answer_line, answer_most};
 ghost use Rattle.script.specs.Machine.{machine, seg_lines, closing};
@@ -10,7 +9,7 @@ ghost use Rattle.script.specs.Steps.{Put};
 use crate::answer::Why;
 use crate::carrying_out::Script;
 use itoa::Buffer;
-use segments::row;
+use segments::RowList;
 
 /// A lent buffer, and the place after what is written in it.
 // The buffer is lent, so its room is asked of each line by a `requires`; std's `Display` would promise no exact bytes of it. A number is cast by `as`: the
@@ -71,16 +70,15 @@ impl<'a> Out<'a> {
         }
     }
 
-    /// Puts the lines of the first rows of a table, each of at most 50 bytes.
-    fn put_rows(&mut self, table: &[u32], rows: usize)
-        requires within { self.old.end + 50 * rows ≤ length self.old.bytes.now }
-        requires rows { 4 * rows ≤ length table.now }
-        ensures put { Put (seg_lines (segments_in rows table.now)) self.old.bytes.now self.old.end self.new.end self.new.bytes.now }
-        ensures most { self.new.end ≤ self.old.end + 50 * rows }
+    /// Puts the lines of rows, each of at most 50 bytes.
+    fn put_rows(&mut self, rows: &RowList)
+        requires { self.old.end + 50 * length rows.now ≤ length self.old.bytes.now }
+        ensures put { Put (seg_lines rows.now) self.old.bytes.now self.old.end self.new.end self.new.bytes.now }
+        ensures most { self.new.end ≤ self.old.end + 50 * length rows.now }
         ensures same_reference { self.new.bytes.ghost_name ≡ self.old.bytes.ghost_name }
     {
-        for i in 0..rows {
-            let s = row(table, i);
+        for i in 0..rows.len() {
+            let s = rows.get(i);
             let start = 16 * s.start as u64;
             let length = 16 * s.length as u64;
             self.put_line(b"seg", &[start, length, s.owner as u64, s.requested as u64]);
@@ -100,7 +98,7 @@ impl<'a> Out<'a> {
         let Ok(totals) = heap.totals(table) else {
             return;
         };
-        self.put_rows(table, heap.rows as usize);
+        self.put_rows(&RowList::new(table, heap.rows as usize));
         let used = totals.used as u64;
         let free = totals.free as u64;
         let peak = totals.peak as u64;
