@@ -18,11 +18,12 @@ use Rattle.model.proofs.Refusing.{no_reason, first_then, first_stays}
 use Rattle.model.proofs.Ordered.{Live, total_insert}
 use Rattle.model.proofs.Allocated.{Proper, proper, fit_at, Allocated, allocated, allocated_whole}
 use Rattle.model.proofs.Guards.{guard_inside}
-use Rattle.segments.specs.Rows.{nth_row, segments_in, blocks_in, Rewritten}
+use Rattle.segments.specs.Rows.{segment_at, nth_row, segments_in, blocks_in, Rewritten}
 use Rattle.segments.specs.Tiling.{is_map}
 use Rattle.segments.specs.Search.{Found}
 use Rattle.segments.specs.Changes.{replaced, cut}
 use Rattle.segments.proofs.Rows.{length_segments}
+use Rattle.segments.proofs.Reading.{row_got}
 use Rattle.segments.proofs.Finding.{found_cut, found_count}
 use Rattle.heap.specs.Stored.{Stored, handed, store, config_of, state_in}
 use Rattle.heap.specs.Valid.{valid}
@@ -190,18 +191,21 @@ module _ (r : Heap) (ws bytes : List ℕ) (o n a : ℕ) where
       in_use : i < r.rows
       in_use = omega (arith, d.1.room.in_use, length_segments r.rows ws)
 
+      in_words : nth_row (segments_in r.rows ws) i ≡ segment_at ws i
+      in_words = row_got r.rows i ws in_use
+
       -- It ends in the arena.
       pub inside : s + b.length ≤ r.granules
       inside = omega (arith, length_is, d.1.room.up_to, bounded.row i in_use)
 
       -- What the cut of the row asks for.
-      pub row_asked : (i < r.rows) × (b.start + b.length ≤ 4294967295) × ((nth_row (segments_in r.rows ws) i).start + (nth_row (segments_in r.rows ws) i).length ≤ 4294967295)
-          × (4 * (r.rows - 1 + length (cut (nth_row (segments_in r.rows ws) i) b)) ≤ length ws)
+      pub row_asked : (i < r.rows) × (b.start + b.length ≤ 4294967295) × ((segment_at ws i).start + (segment_at ws i).length ≤ 4294967295)
+          × (4 * (r.rows - 1 + length (cut (segment_at ws i) b)) ≤ length ws)
       row_asked = (
         in_use,
         omega (arith, inside, begins, bounded.granules),
-        omega (arith, bounded.row i in_use, bounded.granules),
-        omega (arith, found_count (config_of r) (segments_in r.rows ws) (needed (config_of r) n) a place b (valid_map r ws checked) at_row live begins length_is, length_segments r.rows ws, rows_few, bounded.words),
+        omega (arith, bounded.row i in_use, bounded.granules, ap (λ (x : Segment). x.start + x.length) in_words),
+        omega (arith, ap (λ (x : Segment). length (cut x b)) in_words, found_count (config_of r) (segments_in r.rows ws) (needed (config_of r) n) a place b (valid_map r ws checked) at_row live begins length_is, length_segments r.rows ws, rows_few, bounded.words),
       )
 
       -- The sums that are taken fit a word.
@@ -224,9 +228,11 @@ module _ (r : Heap) (ws bytes : List ℕ) (o n a : ℕ) where
         ),
       )
 
-      module _ (m : ℕ) (after : List ℕ) (w : Rewritten r.rows ws (replaced i 1 (cut (nth_row (segments_in r.rows ws) i) b) (segments_in r.rows ws)) m after) where
-        map_is : replaced i 1 (cut (nth_row (segments_in r.rows ws) i) b) (segments_in r.rows ws) ≡ map_of (config_of r) (insert b (blocks_in r.rows ws))
-        map_is = found_cut (config_of r) (segments_in r.rows ws) (needed (config_of r) n) a place b (valid_map r ws checked) at_row live begins length_is
+      module _ (m : ℕ) (after : List ℕ) (w : Rewritten r.rows ws (replaced i 1 (cut (segment_at ws i) b) (segments_in r.rows ws)) m after) where
+        map_is : replaced i 1 (cut (segment_at ws i) b) (segments_in r.rows ws) ≡ map_of (config_of r) (insert b (blocks_in r.rows ws))
+        map_is =
+            ap (λ (x : Segment). replaced i 1 (cut x b) (segments_in r.rows ws)) (sym in_words)
+            ∙ found_cut (config_of r) (segments_in r.rows ws) (needed (config_of r) n) a place b (valid_map r ws checked) at_row live begins length_is
 
         pub rows_fit : m ≤ 4294967295
         rows_fit = omega (arith, w.rows, ap length map_is, rows_few, bounded.capacity)

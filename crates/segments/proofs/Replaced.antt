@@ -8,7 +8,7 @@ use Rattle.model.specs.Allocation.{insert, has_granule, block_over}
 use Rattle.model.specs.SegmentMap.{is_free, is_live, map_of, rows_of}
 use Rattle.model.proofs.Choosing.{split, tests, both_left}
 use Rattle.model.proofs.Ordered.{Live, long}
-use Rattle.segments.specs.Rows.{nth_row, segments_in, Rewritten}
+use Rattle.segments.specs.Rows.{segment_at, nth_row, segments_in, Rewritten}
 use Rattle.segments.specs.Tiling.{tiles, is_map}
 use Rattle.segments.specs.Search.{RowOf, others}
 use Rattle.segments.specs.Changes.{replaced, cut, released, Replaceable}
@@ -16,6 +16,7 @@ use Rattle.segments.specs.Steps.{run_around}
 use Rattle.segments.proofs.MapTiles.{live_map}
 use Rattle.segments.proofs.TilesMap.{formed_live}
 use Rattle.segments.proofs.Rows.{length_segments}
+use Rattle.segments.proofs.Reading.{row_got}
 use Rattle.segments.proofs.Cuts.{cut_length}
 use Rattle.segments.proofs.Rewriting.{rows_read, change}
 use Rattle.segments.proofs.Splitting.{split_rows, split_count}
@@ -115,19 +116,25 @@ module _ {c : Config} {n i : ℕ} {b : Segment} {ws : List ℕ} (r : Replaceable
       free : target_row.owner ≡ 0
       free = eqb-true _ 0 (target_free c (segments_in n ws) i r.in_use r.map r.old b target_row (live_block r) r.fits over_target)
 
+      -- It is the segment in its four words.
+      target_is : target_row ≡ segment_at part at
+      target_is = row_got m at part (omega (arith, a.in_use, length_segments m part))
+
       -- That row may be cut for the block: nothing wraps, and the table has the rows.
       pub may_cut : 4 * rows_of c (insert b (blocks r)) ≤ length ws → (b.start + b.length ≤ 4294967295)
-          × (target_row.start + target_row.length ≤ 4294967295)
-          × (4 * (m - 1 + length (cut target_row b)) ≤ length ws)
+          × ((segment_at part at).start + (segment_at part at).length ≤ 4294967295)
+          × (4 * (m - 1 + length (cut (segment_at part at) b)) ≤ length ws)
       may_cut h =
-          let count = split_count c (segments_in m part) at b a.in_use freed_map free (live_block r) within.0 within.1 in
+          subst (λ (x : Segment). (b.start + b.length ≤ 4294967295) × (x.start + x.length ≤ 4294967295) × (4 * (m - 1 + length (cut x b)) ≤ length ws)) target_is
+          (let count = split_count c (segments_in m part) at b a.in_use freed_map free (live_block r) within.0 within.1 in
           let same = ap (λ (k : List Segment). rows_of c (insert b k)) freed_blocks in
-          (omega (arith, inside r, r.small), omega (arith, within, r.small), omega (arith, length_segments m part))
+          (omega (arith, inside r, r.small), omega (arith, within, r.small), omega (arith, length_segments m part)))
 
       -- The rows are then the map with the block.
-      pub replaced_rows : {k : ℕ} {after : List ℕ} → Rewritten m part (replaced at 1 (cut target_row b) (segments_in m part)) k after
+      pub replaced_rows : {k : ℕ} {after : List ℕ} → Rewritten m part (replaced at 1 (cut (segment_at part at) b) (segments_in m part)) k after
           → Rewritten n ws (map_of c (insert b (blocks r))) k after
       replaced_rows {k} {after} w =
-          let e : replaced at 1 (cut target_row b) (segments_in m part) ≡ map_of c (insert b (blocks r)) =
-          split_rows c (segments_in m part) at b a.in_use freed_map free (live_block r) within.0 within.1 ∙ ap (λ (bs : List Segment). map_of c (insert b bs)) freed_blocks in
+          let e : replaced at 1 (cut (segment_at part at) b) (segments_in m part) ≡ map_of c (insert b (blocks r)) =
+          ap (λ (x : Segment). replaced at 1 (cut x b) (segments_in m part)) (sym target_is)
+          ∙ split_rows c (segments_in m part) at b a.in_use freed_map free (live_block r) within.0 within.1 ∙ ap (λ (bs : List Segment). map_of c (insert b bs)) freed_blocks in
           change (λ (xs : List Segment). map_of c (insert b (blocks r))) q (subst (λ (xs : List Segment). Rewritten m part xs k after) e w) (omega (arith, freed_some, q.rows))

@@ -1,7 +1,7 @@
 -- The rows in use changed in steps, one function after another: a gap inserted, a row cut, two rows joined, a row released.
 -- Assumes nothing.
 use Rattle.std.proofs.Common.{◌≡◌, ℕ, ◌+◌, ◌-◌, ◌*◌, ◌<◌, ◌≤◌, max, true, false, List, [], ◌∷◌, ◌++◌, length, take, drop, replicate, sym, ap, ◌∙◌, subst, arith, take-append-drop, drop_of_length-le, le-ltb, lt-ltb}
-use Rattle.segments.specs.Rows.{table_of, nth_row, segments_in, with_row, with_rows, Rewritten}
+use Rattle.segments.specs.Rows.{table_of, segment_at, nth_row, segments_in, with_row, with_rows, Rewritten}
 use Rattle.model.specs.Allocation.{granules_of}
 use Rattle.model.specs.SegmentMap.{is_free, free_run, gap}
 use Rattle.segments.specs.Changes.{replaced, inserted, removed, cut, join_first, joined, free_first, freed, released}
@@ -83,10 +83,10 @@ module _ (n : ℕ) (ws : List ℕ) (fits : 4 * n ≤ length ws) (i : ℕ) (h : i
       subst (λ (t : List Segment). Rewritten n ws t k three) z r3
 
   -- A row cut for a block, in three steps.
-  pub cut_rows : (s b : Segment) (m k : ℕ) (one two three : List ℕ) → s ≡ nth_row here i → one ≡ with_row ws i b
+  pub cut_rows : (s b : Segment) (m k : ℕ) (one two three : List ℕ) → s ≡ segment_at ws i → one ≡ with_row ws i b
       → Rewritten n one (replaced (i + 1) 0 (gap (b.start + b.length) (s.start + s.length)) (segments_in n one)) m two
       → Rewritten m two (replaced i 0 (gap s.start b.start) (segments_in m two)) k three
-      → Rewritten n ws (replaced i 1 (cut (nth_row here i) b) here) k three
+      → Rewritten n ws (replaced i 1 (cut (segment_at ws i) b) here) k three
   cut_rows s b m k one two three z e r q =
       subst (λ (x : Segment). Rewritten n ws (replaced i 1 (cut x b) here) k three) z (three_rows b (gap s.start b.start) (gap (b.start + b.length) (s.start + s.length)) m k one two three e r q)
 

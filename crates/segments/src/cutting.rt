@@ -2,7 +2,7 @@
 
 ghost use Rattle.std.specs.Prelude.{◌≡◌, ◌+◌, ◌-◌, ◌*◌, ◌<◌, ◌≤◌, length};
 ghost use Rattle.model.specs.SegmentMap.{gap};
-ghost use Rattle.segments.specs.Rows.{nth_row, segments_in, Rewritten};
+ghost use Rattle.segments.specs.Rows.{segment_at, segments_in, Rewritten};
 ghost use Rattle.segments.specs.Changes.{replaced, cut};
 
 use crate::editing::insert_row;
@@ -48,9 +48,9 @@ fn insert_gap(table: &mut [u32], rows: usize, i: usize, from: u32, to: u32) -> u
 pub fn split_row(table: &mut [u32], rows: usize, i: usize, block: Segment) -> usize
     requires in_use { i < rows }
     requires block { block.start + block.length ≤ 4294967295 }
-    requires row { (nth_row (segments_in rows table.old) i).start + (nth_row (segments_in rows table.old) i).length ≤ 4294967295 }
-    requires words { 4 * (rows - 1 + length (cut (nth_row (segments_in rows table.old) i) block)) ≤ length table.old }
-    ensures { Rewritten rows table.old (replaced i 1 (cut (nth_row (segments_in rows table.old) i) block) (segments_in rows table.old)) result table.new }
+    requires row { (segment_at table.old i).start + (segment_at table.old i).length ≤ 4294967295 }
+    requires words { 4 * (rows - 1 + length (cut (segment_at table.old i) block)) ≤ length table.old }
+    ensures { Rewritten rows table.old (replaced i 1 (cut (segment_at table.old i) block) (segments_in rows table.old)) result table.new }
 {
     let s = row(table, i);
     let end = s.start + s.length;
