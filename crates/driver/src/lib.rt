@@ -2,7 +2,8 @@
 //! answer, and the same record, words and bytes afterwards. Making is not here, since there is no record yet to lend.
 //!
 //! The calls that change the record are alike but for the call of the core: one function that takes that call as a closure would be no shorter, and its
-//! promise would speak of any call. The record, the table and the arena are lent each by itself, as a rule of the project.
+//! promise would speak of any call. The enquiries are one call each. `alloc` and `alloc_aligned` are two calls, as in `heap`. The record, the table and the
+//! arena are lent each by itself, as a rule of the project, and what a call is asked with stays numbers.
 #![tactic(auto)]
 
 mod promises;

@@ -1,4 +1,5 @@
-//! Each call of this layer keeps the promise of the heap's call, with the record as it stands afterwards.
+//! Each call of this layer keeps the promise of the heap's call, with the record as it stands afterwards. A function for each: its promise is a record of its
+//! own.
 
 ghost use Rattle.heap.specs.Promises.{AllocDone, FreeDone, ReallocDone, BlockSizeDone, TotalsDone, HoldingDone};
 

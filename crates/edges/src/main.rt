@@ -29,7 +29,7 @@ fn init(rt: &impl Print, arena: &mut [u8], table: &mut [u32]) -> io::Result<Heap
     Ok(out.heap)
 }
 
-// Owner 1's calls, one after the other.
+// Owner 1's calls, one after the other. The record, the arena and the table are lent each by itself, as they are to the heap.
 fn run(
     rt: &impl Print,
     heap: &mut Heap,

@@ -1,4 +1,4 @@
-//! Each call of the heap keeps its promise, as the lists of calls as performed speak of it.
+//! Each call of the heap keeps its promise, as the lists of calls as performed speak of it. A function for each: its promise is a record of its own.
 
 ghost use Rattle.heap.specs.Promises.{InitDone, AllocDone, FreeDone, ReallocDone, BlockSizeDone, TotalsDone, HoldingDone};
 

@@ -1,4 +1,6 @@
 //! The guards in the arena: sixteen bytes after the granules that a block's bytes requested fill.
+//!
+//! That a block's guard lies in the arena is asked by each function that touches it, and is no invariant: the record, the block and the arena come apart.
 
 ghost use Rattle.std.specs.Prelude.{◌≡◌, ◌+◌, ◌≤◌, [], ◌∷◌, length, Ok, Err, true, ℕ};
 ghost use Rattle.model.specs.Arena.{has_recorded_length, guard_offset, guard_bytes, guard_filled, is_broken};

@@ -36,6 +36,7 @@ fn in_steps(n: usize, least: usize, most: usize, step: usize) -> bool
     (least..=most).contains(&n) && n % step == 0
 }
 
+// Not one with `is_table`: each promises the definition of its name, and `in_steps` is what they share.
 /// Whether the length is an arena's.
 pub(crate) fn is_arena(bytes: usize) -> bool
     ensures { result ≡ is_arena bytes }

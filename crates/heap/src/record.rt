@@ -23,7 +23,8 @@ pub struct Heap {
 }
 
 /// What a making answers, and the record that it makes: all zero if it is refused.
-// The record stands beside the answer and not in it: a refused making has one too (`calls.after_init`).
+// The record stands beside the answer and not in it: a refused making has one too (`calls.after_init`). Not an `Outcome`:
+// its refusals are others, and a second type would stand at each other call.
 #[derive(Clone, Copy, Debug, PartialEq, Eq)]
 pub struct Initialized {
     pub answer: Result<(), InitRefusal>,

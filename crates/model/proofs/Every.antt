@@ -15,7 +15,7 @@ module _ (p : ℕ → Bool) (xs : List ℕ) (i : ℕ) where
   pub every_more : i < length xs → p (get_or xs i 0) ≡ true → list_all p (drop i xs) ≡ list_all p (drop (i + 1) xs)
   every_more h q = rw (add-one i, drop-cons xs i 0 h, q)
 
-  -- It does not hold of element i.
+  -- It does not hold of element i: from i on, where std has it of the whole list.
   pub every_not : i < length xs → p (get_or xs i 0) ≡ false → list_all p (drop i xs) ≡ false
   every_not h q = rw (drop-cons xs i 0 h, q)
 

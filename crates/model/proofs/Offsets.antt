@@ -15,6 +15,7 @@ use Rattle.model.proofs.Choosing.{split, split_option, clash, tests, ne_of_eqb, 
 use Rattle.model.proofs.Ordered.{Live, Ordered, long, only_ordered, before_clear, after_clear}
 use Rattle.model.specs.declared.Segment.{Segment}
 
+-- Of std's `Option`; the logic has these two of its own.
 not_some : {A : Type 0} (a : A) → Some a ≡ None → ⊥
 not_some a e = let w : ◌≡◌ {A = ℕ} 0 1 = cc in omega arith
 

@@ -56,6 +56,7 @@ impl fmt::Display for Shown {
 }
 
 /// A making's answer as it is printed. It has no value: what is printed is the arena's length in bytes.
+// Not one with `Shown`: a making is refused for other reasons.
 #[derive(Clone, Copy, Debug, PartialEq, Eq)]
 pub struct Making {
     pub answer: Result<(), InitRefusal>,

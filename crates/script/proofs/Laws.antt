@@ -223,7 +223,7 @@ abbrev pub makes : Machine → List (List ℕ) → Bool
 makes m [] = false
 makes m (l ∷ ls) = (is_make (read_line l) && is_ok (answer_to m (read_line l))) || makes (after m (read_line l)) ls
 
--- Whether one of three tests holds does not depend on how they are grouped.
+-- Whether one of three tests holds does not depend on how they are grouped. std has it, but not as a public lemma.
 either_three : (a b c : Bool) → (a || b || c) ≡ (a || (b || c))
 either_three true b c = refl
 either_three false b c = refl

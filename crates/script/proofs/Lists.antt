@@ -22,7 +22,7 @@ at_most k n l e =
     let h : length l ≤ k = omega tests in
     (rw z (take-length l ∙ sym (take_all k l h)), rw z (drop-length l ∙ sym (drop_of_length-le l h))))
 
--- The part of a text from place i on, as a loan of it is made.
+-- The part of a text from place i on, as a loan of it is made; std has it of a whole list.
 pub rest_part : (l : List ℕ) (i : ℕ) → take (length l - i) (drop i l) ≡ drop i l
 rest_part l i = take_all (length l - i) (drop i l) (omega (arith, length-drop i l))
 

@@ -76,7 +76,7 @@ abbrev pub digits_within : ℕ → ℕ → List ℕ
 digits_within zero n = []
 digits_within (suc k) n = if ltb n 10 then (48 + n) ∷ [] else digits_within k (n / 10) ++ ((48 + n % 10) ∷ [])
 
--- A number is written in decimal digits with no zero before it; n has at most n + 1 of them.
+-- A number is written in decimal digits with no zero before it; n has at most n + 1 of them. std's `decimal` has 64 at most.
 unfoldable pub decimal : ℕ → List ℕ
 decimal n = digits_within (suc n) n
 

@@ -41,6 +41,7 @@ impl Script {
         }
     }
 
+    // A method and no `From`: a script is no plan, and only a make asks for one.
     /// What a make is handed: its heaps have base 0 and no guards, and the quotas that the limit lines gave.
     fn plan(&self) -> Plan
         ensures { result ≡ plan_of self.now }

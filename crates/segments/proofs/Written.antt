@@ -15,6 +15,7 @@ pub words_append : (ys zs : List Segment) → words_of (ys ++ zs) ≡ words_of y
 words_append [] zs = refl
 words_append (y ∷ ys) zs = ap (λ r. y.start ∷ y.length ∷ y.owner ∷ y.requested ∷ r) (words_append ys zs)
 
+-- zeros before other words; std has zeros alone
 drop_zeros : (k n : ℕ) (ws : List ℕ) → drop k (replicate n 0 ++ ws) ≡ replicate (n - k) 0 ++ drop (k - n) ws
 drop_zeros zero n ws = let z : n - 0 ≡ n = omega arith in let y : 0 - n ≡ 0 = omega arith in rw (z, y)
 drop_zeros (suc k) zero ws = let z : 0 - suc k ≡ 0 = omega arith in let y : suc k - 0 ≡ suc k = omega arith in rw (z, y)

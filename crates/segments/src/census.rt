@@ -36,7 +36,8 @@ impl Census {
         }
     }
 
-    // Whether the row may follow those counted, in an arena of so many granules, if a guard has `guards` granules.
+    // Whether the row may follow those counted, in an arena of so many granules, if a guard has `guards` granules. Two numbers, since the record that has both
+    // is the heap's, of a crate above.
     fn is_followed_by(&self, s: Segment, granules: u32, guards: u32) -> bool
         requires inside { self.now.end ≤ granules }
         requires guards { guards ≤ 1 }
@@ -89,6 +90,7 @@ impl<'a> RowList<'a> {
         ensures { (c : Config) → c.granules ≡ granules → c.guards ≡ guards → Counted c self.now result }
     {
         let mut k = Census::new();
+        // By their numbers: `get` reads row i, as the contracts name it.
         for i in 0..self.len() {
             let s = self.get(i);
             if !k.is_followed_by(s, granules, guards) {

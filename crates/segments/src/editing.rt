@@ -1,7 +1,7 @@
 //! A row taken into use or out of use: the rows after it move by one.
 //!
 //! The functions that write rows, here and in the modules above, are handed a table and how many rows are in use, and answer how many are then: a `RowList`,
-//! whose number stands, would not do.
+//! whose number stands, would not do. That row i is in use is asked by each of them.
 
 ghost use Rattle.std.specs.Prelude.{◌≡◌, ◌+◌, ◌*◌, ◌<◌, ◌≤◌, length};
 ghost use Rattle.segments.specs.Rows.{segments_in, with_rows};

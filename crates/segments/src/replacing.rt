@@ -1,4 +1,6 @@
 //! A block put into the place of another: where it may start, how many rows there are then, and the rows rewritten.
+//!
+//! That the rows are a map is asked by each function that needs it (`IsMapWithin`), and not by `RowList`: the census reads rows that may be none.
 
 ghost use Rattle.std.specs.Prelude.{◌≡◌, ◌+◌, ◌*◌, ◌%◌, ◌<◌, ◌≤◌, true, if◌then◌else◌, length};
 ghost use Rattle.model.specs.Quantities.{Config};

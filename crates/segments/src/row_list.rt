@@ -1,4 +1,5 @@
-//! The rows in use of a table, as one value: a contract sees the list of their segments.
+//! The rows in use of a table, as one value: a contract sees the list of their segments. That there is a row i is asked by each function that takes an i, as it
+//! is of an index.
 
 ghost use Rattle.std.specs.Prelude.{◌≡◌, ◌*◌, ◌<◌, ◌≤◌, List, length};
 ghost use Rattle.model.specs.declared.Segment.{Segment as SpecSegment};
