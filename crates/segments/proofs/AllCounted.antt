@@ -22,14 +22,27 @@ use Rattle.segments.specs.declared.census.Census.{Census}
 abbrev length_of : Segment → ℕ
 length_of x = x.length
 
+-- In r each owner's figure is the one in l with what its blocks add.
+abbrev BlockSums : (Segment → ℕ) → List ℕ → List ℕ → List Segment → Type 0
+BlockSums f l r bs = (o : ℕ) → 1 ≤ o → o ≤ 8 → get_or r (o - 1) 0 ≡ get_or l (o - 1) 0 + total f (owned_by o bs)
+
+-- The figures with a block's are the sums with that block, of any figures.
+pub more_sums : (f : Segment → ℕ) (l r : List ℕ) (x : Segment) (bs : List Segment) → 1 ≤ x.owner → x.owner ≤ 8 → length l ≡ 8
+    → BlockSums f (set l (x.owner - 1) (get_or l (x.owner - 1) 0 + f x)) r bs → BlockSums f l r (x ∷ bs)
+more_sums f l r x bs h m e s o a b =
+    let v : ℕ = get_or l (x.owner - 1) 0 + f x in
+    s o a b ∙ split (eqb x.owner o)
+    (λ q. let z : o - 1 ≡ x.owner - 1 = omega tests in rw (q, z, get_or-set_same l (x.owner - 1) v 0 (omega arith)) (omega arith))
+    (λ q. rw (q, get_or-set_other l (x.owner - 1) (o - 1) v 0 (λ z. omega tests)))
+
 -- Each owner's figure of all is the one counted with what the rows left add.
 abbrev Sums : (Segment → ℕ) → List ℕ → List Segment → List Segment → Type 0
 Sums f l xs all = (o : ℕ) → 1 ≤ o → o ≤ 8 → total f (owned_by o (filter is_live all)) ≡ get_or l (o - 1) 0 + total f (owned_by o (filter is_live xs))
 
--- The figures with a block's are the sums with that block.
-more_sums : (f : Segment → ℕ) (l : List ℕ) (x : Segment) (xs all : List Segment) → is_free x ≡ false → 1 ≤ x.owner → x.owner ≤ 8 → length l ≡ 8
+-- The same of what the rows left add.
+one_more : (f : Segment → ℕ) (l : List ℕ) (x : Segment) (xs all : List Segment) → is_free x ≡ false → 1 ≤ x.owner → x.owner ≤ 8 → length l ≡ 8
     → Sums f l (x ∷ xs) all → Sums f (set l (x.owner - 1) (get_or l (x.owner - 1) 0 + f x)) xs all
-more_sums f l x xs all v h m e s o a b =
+one_more f l x xs all v h m e s o a b =
     let v' : ℕ = get_or l (x.owner - 1) 0 + f x in
     let before : total f (owned_by o (filter is_live all)) ≡ get_or l (o - 1) 0 + total f (owned_by o (x ∷ filter is_live xs)) = rw v at (s o a b) in
     before
@@ -103,8 +116,8 @@ module _ (c : Config) (k : Census) (x : Segment) (xs all : List Segment) (a : Ah
         map = a.map ∙ sym (rest_goes_on f false o);
         used = rw o at a.used ∙ omega arith;
         longest = rw o at a.longest;
-        blocks = more_sums (λ (y : Segment). 1) k.blocks x xs all o (omega tests) f.owner e a.blocks;
-        held = more_sums length_of k.held x xs all o (omega tests) f.owner g a.held;
+        blocks = one_more (λ (y : Segment). 1) k.blocks x xs all o (omega tests) f.owner e a.blocks;
+        held = one_more length_of k.held x xs all o (omega tests) f.owner g a.held;
       }
 
 module _ (c : Config) (xs : List Segment) (k : Census) (a : Ahead c k [] xs) where
