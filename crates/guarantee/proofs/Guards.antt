@@ -38,7 +38,6 @@ use Rattle.heap.specs.declared.record.Initialized.{Initialized}
 use Rattle.model.specs.declared.Segment.{Segment}
 use Rattle.model.specs.declared.Plan.{Plan}
 use Rattle.model.specs.declared.Refusal.TheVariants as refusal
-use Rattle.model.specs.declared.Resized.TheVariants as resized
 
 -- the block at x, if it is o's and a test holds of it, is among o's blocks one of which the test holds
 owned_first : (p : Segment → Bool) (o x : ℕ) (bs : List Segment) (b : Segment) → block_at x bs ≡ Some b → b.owner ≡ o → p b ≡ true

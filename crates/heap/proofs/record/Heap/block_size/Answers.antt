@@ -1,9 +1,7 @@
 -- `heap::Heap::block_size` meets its contract: after 1 the rest of its order is that of `find_owned`.
 -- Assumes nothing.
-use Rattle.std.proofs.Common.{rules, subst, sym}
-use Rattle.std.specs.Prelude.{◌≡◌, Err}
+use Rattle.std.proofs.Common.{rules}
 use native.Mathlib.Omega.{arith}
-use Rattle.heap.specs.Promises.{BlockSizeDone}
 use Rattle.heap.proofs.Frees.{size_invalid, size_not, size_row, size_bytes}
 use Rattle.heap.proofs.record.Heap.block_size.Goals as goal
 

@@ -1,7 +1,7 @@
 -- `heap::Heap::find_resize` meets its contract: each part of the order in turn.
 -- Assumes nothing.
 use Rattle.std.proofs.Common.{rules}
-use Rattle.heap.proofs.Frees.{free_of_valid, free_invalid}
+use Rattle.heap.proofs.Frees.{free_of_valid}
 use Rattle.heap.proofs.Refitting.{refit_invalid, refit_not, refit_asked, refit_decided}
 use Rattle.heap.proofs.record.Heap.find_resize.Goals as goal
 

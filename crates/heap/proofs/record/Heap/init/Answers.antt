@@ -4,7 +4,6 @@ use Rattle.std.specs.Prelude.{◌≡◌, Bool, true, false, if◌then◌else◌,
 use mir.Val.{bool_byte}
 use Rattle.std.proofs.Common.{rules, refl, sym, ap, ◌∙◌}
 use native.Mathlib.Omega.{arith}
-use Rattle.model.specs.Quantities.{Config, in_range}
 use Rattle.model.specs.Rules as model
 use Rattle.model.specs.Numbers.{made_numbered}
 use Rattle.model.proofs.Ranges.{some_rows, few_granules, few_rows}
