@@ -1,9 +1,11 @@
 //! A heap's bytes and rows, as they are printed, and writes into its arena.
 
-ghost use Rattle.std.specs.Prelude.{◌≡◌, ◌+◌, ◌*◌, ◌<◌, ◌≤◌, length, replicate};
+ghost use Rattle.std.specs.Prelude.{◌≡◌, ◌+◌, ◌<◌, ◌≤◌, length, replicate};
 ghost use Rattle.model.specs.Arena.{written};
 
 use heap::Heap;
+use model::Segment;
+use segments::RowList;
 use std::fmt;
 
 /// Sets `count` bytes from `at` on to a value. A run that does not lie in the arena is not written.
@@ -44,20 +46,18 @@ impl fmt::Display for Rows<'_> {
     fn fmt<W: fmt::Write>(&self, f: &mut fmt::Formatter<W>) -> fmt::Result {
         let Rows(heap, table) = *self;
         write!(f, "rows {}", heap.rows)?;
-        let rows = table.len() / 4;
-        // By their numbers: `segments::row` reads row i.
-        for i in 0..rows.min(heap.rows as usize) {
-            write_row(f, table, i)?;
+        let count = (table.len() / 4).min(heap.rows as usize);
+        let rows = RowList::new(table, count);
+        // By their numbers: a `RowList` reads row i.
+        for i in 0..rows.len() {
+            write_row(f, rows.get(i))?;
         }
         Ok(())
     }
 }
 
-// Row i: start, length, owner and requested, all but the owner in bytes.
-fn write_row<W: fmt::Write>(f: &mut fmt::Formatter<W>, table: &[u32], i: usize) -> fmt::Result
-    requires { 4 * i + 4 ≤ length table.now }
-{
-    let row = segments::row(table, i);
+// A row: start, length, owner and requested, all but the owner in bytes.
+fn write_row<W: fmt::Write>(f: &mut fmt::Formatter<W>, row: Segment) -> fmt::Result {
     let start = u64::from(row.start) * 16;
     let length = u64::from(row.length) * 16;
     write!(f, " | {start} {length} {} {}", row.owner, row.requested)
