@@ -1,7 +1,7 @@
 -- The input was fed from the session's start on, and then finished.
 -- Assumes nothing.
 use Rattle.std.proofs.lemmas.Result.{on_ok_weaker, on_err_weaker}
-use Rattle.heapscript.proofs.Steps.{OnErr-anyhow, AnswersScript-end, StopsScript-input, StopsScript-end}
+use Rattle.heapscript.proofs.Steps.{AnswersScript-end, StopsScript-end}
 use Rattle.heapscript.proofs.answer_script.Goals as goal
 
 pub returns-clause-ok : goal.returns-clause-ok
@@ -15,8 +15,3 @@ returns-clause-err g c =
     on_err_weaker c.write_end.result
     (λ h. StopsScript-end _ _ _ _ _ _ _ _ _ _ _ c.start-session.ensures.script c.start-session.ensures.count c.in_ok-answer_input.ensures.ok h)
     c.write_end.ensures.err
-
-pub returns-in_err-answer_input-clause-err : goal.returns-in_err-answer_input-clause-err
-returns-in_err-answer_input-clause-err g c =
-    OnErr-anyhow c.from_residual.result
-    (StopsScript-input _ _ _ _ _ _ _ c.start-session.ensures.script c.start-session.ensures.count c.in_err-answer_input.ensures.err)

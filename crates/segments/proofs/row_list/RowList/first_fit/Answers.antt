@@ -1,23 +1,9 @@
 -- `segments::row_list::RowList::first_fit` meets its contract. The loop's invariant: no row before row `i` is a hit.
 -- The measure is the rows left. Assumes nothing.
-use Rattle.std.proofs.Common.{ℕ, ◌+◌, ◌%◌, ◌^◌, ap, ◌∙◌, arith, eq-eqb, ne_eqb, le-leb}
-use borrow.Author.Tests.{lt-leb}
+use Rattle.std.proofs.Common.{ℕ, ◌+◌, ◌%◌, ◌^◌, ap, ◌∙◌, arith, eq-eqb, le-leb}
 use Rattle.segments.proofs.Padding.{padding_past}
-use Rattle.segments.proofs.Scanned.{passed_one, found_none, found_at}
+use Rattle.segments.proofs.Scanned.{found_none, found_at}
 use Rattle.segments.proofs.row_list.RowList.first_fit.Goals as goal
-use Rattle.segments.proofs.row_list.RowList.first_fit.Goals.{then-s-eq0+else-skipped-need, else-s-eq0}
-
-pub loop-i-preserved : goal.loop-i-preserved
-loop-i-preserved c =
-    let l = c.loop-i in
-    let r = c.get-s in (
-      omega arith,
-      passed_one l.invariant.1 (omega arith) r.result r.ensures
-          (elim c.if-s-eq0.branch [
-            | then-s-eq0+else-skipped-need w ↦ rw (eq-eqb r.result.owner 0 w.if-s-eq0.true) (omega (arith, lt-leb, w.padding_of-skipped.ensures.answer ∙ padding_past _ _ _, w.if-skipped-need.false))
-            | else-s-eq0 w ↦ rw (ne_eqb r.result.owner 0 w.if-s-eq0.false)
-          ]),
-    )
 
 pub returns-then-len-i : goal.returns-then-len-i
 returns-then-len-i c config at_base small ok =

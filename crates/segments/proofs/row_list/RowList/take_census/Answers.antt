@@ -9,7 +9,7 @@ use Rattle.segments.specs.Steps.{follows_of, free_of, live_of}
 use Rattle.segments.proofs.Reading.{rest_row, rest_none}
 use Rattle.segments.proofs.Following.{Follows, follows_true}
 use Rattle.segments.proofs.OneCounted.{of_granules, none_bounded, free_bounded, live_bounded, passed_bounded}
-use Rattle.segments.proofs.AllCounted.{Ahead, begin, none_follows, ahead_free, ahead_live, none_ends, whole, not_counted}
+use Rattle.segments.proofs.AllCounted.{Ahead, begin, none_follows, ahead_free, ahead_live, whole, not_counted}
 use Rattle.model.specs.declared.Segment.{Segment}
 use Rattle.segments.specs.declared.census.Census.{Census}
 use Rattle.segments.proofs.row_list.RowList.take_census.Goals as goal
@@ -89,10 +89,6 @@ loop-i-preserved c =
 -- With no row left.
 last : (g f i : ℕ) (xs : List Segment) (k : Census) → length xs ≤ i → Of g f (λ c. Ahead c k (drop i xs) xs) → Of g f (λ c. Ahead c k [] xs)
 last g f i xs k h a c p q = subst (λ (ys : List Segment). Ahead c k ys xs) (rest_none xs i h) (a c p q)
-
-pub returns-then-k-granules : goal.returns-then-k-granules
-returns-then-k-granules c d p q =
-    not_counted d _ (none_ends d _ _ (last _ _ _ c.args.self.now _ (omega (arith, c.loop-i-test.false, c.len-i-end.ensures.count)) c.loop-i.invariant.ahead d p q) (λ z. c.if-k-granules.true (z ∙ p)))
 
 pub returns : goal.returns
 returns c d p q =
