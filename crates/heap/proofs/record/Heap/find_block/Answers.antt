@@ -17,11 +17,6 @@ returns-in_err-found c =
     let a = free_lent c.args.self c.args.arena.now (passed_by (other_arena (config_of c.args.self) c.args.arena.now ∷ []) c.in_ok-check_arena.ensures) in
     valid_not c.args.self c.args.table.now c.args.owner c.args.offset c.args.arena.now _ _ (search rules) (free_undecided c.args.self c.args.table.now c.args.owner c.args.offset c.args.arena.now a _ c.find_owned.ensures _ c.in_err-found.was)
 
-pub check_guard-requires : goal.check_guard-requires
-check_guard-requires c =
-    let a = free_lent c.args.self c.args.arena.now (passed_by (other_arena (config_of c.args.self) c.args.arena.now ∷ []) c.in_ok-check_arena.ensures) in
-    record { valid = c.requires; arena = a; found = (c.args.offset, free_block c.args.self c.args.table.now c.args.owner c.args.offset c.args.arena.now a _ c.find_owned.ensures _ c.in_ok-found.was) }
-
 pub returns-in_err-check_guard : goal.returns-in_err-check_guard
 returns-in_err-check_guard c =
     let a = free_lent c.args.self c.args.arena.now (passed_by (other_arena (config_of c.args.self) c.args.arena.now ∷ []) c.in_ok-check_arena.ensures) in
