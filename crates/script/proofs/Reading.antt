@@ -4,7 +4,7 @@ use Rattle.std.proofs.Common.{◌≡◌, ℕ, suc, ◌+◌, ◌-◌, ◌*◌, �
 use mathlib.Core.Bool.{cond}
 use denote.Param.Members.{Mut}
 use lib.Dec.{ltb}
-use borrow.Author.Tests.{leb-true, le-leb, lt-leb, le-ltb}
+use borrow.Author.Tests.{leb-true, le-leb, lt-leb, le-ltb, lt-ltb}
 use Rattle.std.specs.Bool.{MatchBool}
 use Rattle.std.specs.Option.{option_map}
 use Rattle.std.specs.List.{slice_split, onto_first, position, position_or_len, All, IsFirstMatchOrLen, list_all}
@@ -12,8 +12,11 @@ use Rattle.std.specs.Prelude.{if◌then◌else◌}
 use Rattle.std.specs.Slice.Iter.{split_steps, split_rest, split_done, split_callee}
 use Rattle.std.specs.Fn.{ComputesKey, CalledAt}
 use Rattle.std.proofs.lemmas.List.Splits.{slice_split_none, slice_split_at, slice_split_first}
+use Rattle.std.proofs.lemmas.List.Sums.{position_or_len_is}
+use Rattle.std.proofs.lemmas.Bool.{false_from_ne_true}
 use Rattle.std.proofs.lemmas.Fn.{always_returns_same}
 use Rattle.std.proofs.lemmas.Grind.{common_steps}
+use Rattle.memchr.specs.Find.{IsFirstByte, is_byte}
 use Rattle.model.specs.Quantities.{within}
 use Rattle.model.proofs.Choosing.{split, parts, tests, every_head}
 use Rattle.model.proofs.Ranges.{within_least, within_most, bounds_within}
@@ -93,6 +96,17 @@ newline_some l n e =
       pieces_split 10 l ∙ slice_split_first (λ b. eqb b 10) l 0 (omega tests) ∙ rw y (ap (λ fs. take n l ∷ fs) (sym (pieces_split 10 (drop (n + 1) l)))),
     ))
     (λ q. let z : None ≡ Some n = rw q at e in let y : ◌≡◌ {A = ℕ} 0 1 = cc in absurd (omega arith))
+
+-- The first byte that is a newline is where std's `position` finds it.
+pub newline_first : (l : List ℕ) (r : Option ℕ) → IsFirstByte (is_byte 10) l r → r ≡ position (λ b. eqb b 10) l
+newline_first l None h =
+    let at : position_or_len (λ b. eqb b 10) l ≡ length l =
+    position_or_len_is (λ b. eqb b 10) l (length l) 0 (omega arith) (λ k q. false_from_ne_true _ (h k (omega arith) q)) (λ q. absurd (omega arith)) in
+    rw (at, le-ltb (length l) (length l) (omega arith)) refl
+newline_first l (Some n) h =
+    let at : position_or_len (λ b. eqb b 10) l ≡ n =
+    position_or_len_is (λ b. eqb b 10) l n 0 (omega (arith, h.0.high)) (λ k q. false_from_ne_true _ (h.0.before k (omega arith) q)) (λ q. h.1) in
+    rw (at, lt-ltb n (length l) h.0.high) refl
 
 -- What a number is.
 pub record Readable (f : List ℕ) : Type 0 where

@@ -28,6 +28,44 @@ fn part(wanted: usize, lent: usize) -> usize
     if lent < wanted { 0 } else { wanted }
 }
 
+// A product of a number that a line or a record brings is taken only where so many are lent: so no `usize` here needs more bits than a length does.
+/// The words of so many rows, or all that are lent if those are fewer.
+pub(crate) fn words_lent(rows: u32, lent: usize) -> usize
+    ensures { result ≡ min (4 * rows) lent }
+{
+    let rows = rows as usize;
+    if lent / 4 < rows {
+        return lent;
+    }
+    prove!(4 * rows <= lent);
+    4 * rows
+}
+
+/// The bytes of so many granules, or all that are lent if those are fewer.
+fn bytes_lent(granules: u32, lent: usize) -> usize
+    ensures { result ≡ min (16 * granules) lent }
+{
+    let granules = granules as usize;
+    if lent / 16 < granules {
+        return lent;
+    }
+    prove!(16 * granules <= lent);
+    16 * granules
+}
+
+/// The words of so many rows, for a make: 0 if fewer are lent.
+fn words_part(rows: u32, lent: usize) -> usize
+    ensures part { result ≡ part_of (4 * rows) lent }
+    ensures within { result ≤ lent }
+{
+    let rows = rows as usize;
+    if lent / 4 < rows {
+        return 0;
+    }
+    prove!(4 * rows <= lent);
+    4 * rows
+}
+
 // The table and the arena stay two lent slices beside the record, here and in a session: a rule of the project.
 impl Script {
     /// A script before any line.
@@ -80,7 +118,7 @@ impl Script {
         ensures leaves { machine self.new table.new arena.new ≡ after (machine self.old table.old arena.old) (Some (Make bytes rows)) }
     {
         let n = part(bytes as usize, arena.len().min(65536));
-        let k = part(4 * rows as usize, table.len());
+        let k = words_part(rows, table.len());
         let made = Heap::init(&mut arena[..n], &mut table[..k], self.plan());
         made.answer?;
         self.heap = made.heap;
@@ -100,8 +138,8 @@ impl Script {
         ensures answer { call_answer result ≡ answer_to (machine self.old table.old arena.old) (Some (Ask owner size align)) }
         ensures leaves { machine self.new table.new arena.new ≡ after (machine self.old table.old arena.old) (Some (Ask owner size align)) }
     {
-        let n = (4 * self.heap.capacity as usize).min(table.len());
-        let k = (16 * self.heap.granules as usize).min(arena.len());
+        let n = words_lent(self.heap.capacity, table.len());
+        let k = bytes_lent(self.heap.granules, arena.len());
         let heap = self.heap;
         let out = heap.alloc_aligned(&mut table[..n], &mut arena[..k], owner, size, align);
         self.heap = out.heap;
@@ -120,8 +158,8 @@ impl Script {
         ensures answer { call_answer result ≡ answer_to (machine self.old table.old arena.old) (Some (Back owner offset)) }
         ensures leaves { machine self.new table.new arena.new ≡ after (machine self.old table.old arena.old) (Some (Back owner offset)) }
     {
-        let n = (4 * self.heap.capacity as usize).min(table.len());
-        let k = (16 * self.heap.granules as usize).min(arena.len());
+        let n = words_lent(self.heap.capacity, table.len());
+        let k = bytes_lent(self.heap.granules, arena.len());
         let heap = self.heap;
         let out = heap.free(&mut table[..n], &mut arena[..k], owner, offset);
         self.heap = out.heap;

@@ -7,7 +7,7 @@ ghost use Rattle.script.specs.Promises.{WriteDone};
 ghost use Rattle.script.specs.Steps.{Put};
 
 use crate::answer::Why;
-use crate::carrying_out::Script;
+use crate::carrying_out::{Script, words_lent};
 use itoa::Buffer;
 use segments::RowList;
 
@@ -93,7 +93,7 @@ impl<'a> Out<'a> {
         ensures same_reference { self.new.bytes.ghost_name ≡ self.old.bytes.ghost_name }
     {
         let heap = script.heap;
-        let n = (4 * heap.capacity as usize).min(table.len());
+        let n = words_lent(heap.capacity, table.len());
         let table = &table[..n];
         let Ok(totals) = heap.totals(table) else {
             return;

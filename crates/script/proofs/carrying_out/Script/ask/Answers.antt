@@ -6,4 +6,4 @@ use Rattle.script.proofs.carrying_out.Script.ask.Goals as goal
 pub returns-clause-answer : goal.returns-clause-answer
 returns-clause-answer c =
     let d = c.alloc_aligned-out.ensures in
-    (ask_done c.args.self.now _ _ _ _ c.min-n.ensures c.min-k.ensures _ _ _ _ _ _ (record { answer = d.answer; numbered = d.numbered; heap = d.heap; table = d.table; arena = d.arena })).0
+    (ask_done c.args.self.now _ _ _ _ c.words_lent-n.ensures c.bytes_lent-k.ensures _ _ _ _ _ _ (record { answer = d.answer; numbered = d.numbered; heap = d.heap; table = d.table; arena = d.arena })).0
